@@ -1,0 +1,5 @@
+pub mod Queues
+pub mod Reckoning
+pub mod Refusals
+pub mod Searches
+pub mod Table

@@ -1,0 +1,14 @@
+// The vocabulary of the dispatcher: plain types, with the definitions in specs/ that contracts cite.
+mod calls;
+mod duties;
+mod errands;
+mod refusals;
+mod rows;
+
+pub use calls::Answer;
+pub use calls::Call;
+pub use calls::Who;
+pub use duties::Duty;
+pub use errands::Errand;
+pub use refusals::Refusal;
+pub use rows::Row;

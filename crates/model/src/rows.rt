@@ -1,0 +1,8 @@
+// The state of one row of the table. `earliest` is the first clock at which the row may be released
+// next; a ready row has `left` ticks of its job still to come, by the clock `due`. Both clocks may lie
+// past the last value of the machine's own clock, so they are wider.
+#[derive(Clone, Copy, PartialEq, Eq, Debug)]
+pub enum Row {
+    Idle { earliest: u64 },
+    Ready { left: u32, due: u64, earliest: u64 },
+}
