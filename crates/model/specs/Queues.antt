@@ -11,7 +11,9 @@ use Rattle.std.specs.declared.option.Option.{Option}
 use Rattle.std.specs.declared.option.Option.the-variants.{Some, None}
 use Rattle.std.specs.declared.result.Result.{Result}
 use Rattle.std.specs.declared.result.Result.the-variants.{Ok, Err}
+use Rattle.model.specs.Refusals.{told}
 use Rattle.model.specs.declared.errands.Errand.{Errand}
+use Rattle.model.specs.declared.refusals.Refusal.{Refusal}
 
 -- The meaning of a queue: the errands that wait, each with its units left and its worth; the number of the one
 -- that it names; and its places, fixed for life.
@@ -73,9 +75,9 @@ put-refusal m e =
     (cond (leb (m .places) (length (m .waiting))) (10 ∷ []) []))
 
 -- Put: refused as above with nothing changed, or the errand waits as given and every other as before.
-abbrev pub Put : Meaning → Errand → List ℕ → Meaning → Type 0
-Put m e [] m′ = (put-refusal m e ≡ []) × Changes m (e .number) (Some e) m′
-Put m e (k ∷ ks) m′ = (put-refusal m e ≡ k ∷ ks) × (m′ ≡ m)
+abbrev pub Put : {X : Type 0} → Meaning → Errand → Result X Refusal → Meaning → Type 0
+Put m e (Ok x) m′ = (put-refusal m e ≡ []) × Changes m (e .number) (Some e) m′
+Put m e (Err why) m′ = (put-refusal m e ≡ told why) × (m′ ≡ m)
 
 -- Spend: none where nothing is named, with nothing changed; else the number named, which has one unit less.
 abbrev pub Spend : Meaning → Option ℕ → Meaning → Type 0
@@ -85,6 +87,6 @@ Spend m (Some n) m′ =
 
 -- Take: 11 where the number does not wait, with nothing changed; else the units that it had left, and it waits
 -- no more.
-abbrev pub Take : Meaning → ℕ → Result ℕ (List ℕ) → Meaning → Type 0
-Take m n (Err refused) m′ = (look (m .waiting) n ≡ None) × (refused ≡ 11 ∷ []) × (m′ ≡ m)
+abbrev pub Take : Meaning → ℕ → Result ℕ Refusal → Meaning → Type 0
 Take m n (Ok units) m′ = ((e : Errand) × (look (m .waiting) n ≡ Some e) × (units ≡ e .units) × Changes m n None m′)
+Take m n (Err why) m′ = (look (m .waiting) n ≡ None) × (told why ≡ 11 ∷ []) × (m′ ≡ m)
