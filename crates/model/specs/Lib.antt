@@ -1,5 +1,10 @@
+pub mod Futures
+pub mod Kept
+pub mod Machine
+pub mod Promise
 pub mod Queues
 pub mod Reckoning
 pub mod Refusals
+pub mod Runs
 pub mod Searches
 pub mod Table

@@ -12,3 +12,4 @@ pub use duties::Duty;
 pub use errands::Errand;
 pub use refusals::Refusal;
 pub use rows::Row;
+pub use rows::RowCall;

@@ -6,3 +6,11 @@ pub enum Row {
     Idle { earliest: u64 },
     Ready { left: u32, due: u64, earliest: u64 },
 }
+
+// What is asked of a row: a release, the end of its job, or one tick of work.
+#[derive(Clone, Copy, PartialEq, Eq, Debug)]
+pub enum RowCall {
+    Release,
+    Done,
+    Run,
+}
