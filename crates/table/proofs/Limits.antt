@@ -28,7 +28,7 @@ limits d h =
       some = leb-true _ _ (second .0);
       in-time = leb-true _ _ (second .1);
       apart = leb-true _ _ (third .1);
-      short = leb-true _ _ (last .1)
+      short = leb-true _ _ (last .1);
     }
 
 -- Every row of a table within its limits is.
@@ -58,9 +58,9 @@ busy-at-most (d ∷ ds) w h le =
 
 -- One row more of a sum over the rows that are left.
 pub busy-drop :
-  (ds : List Duty) (k w : ℕ)
-  → k < length ds
-  → busy (drop k ds) w ≡ getD ds k no-duty .cost * ceil w (getD ds k no-duty .separation) + busy (drop (k + 1) ds) w
+    (ds : List Duty) (k w : ℕ)
+    → k < length ds
+    → busy (drop k ds) w ≡ getD ds k no-duty .cost * ceil w (getD ds k no-duty .separation) + busy (drop (k + 1) ds) w
 busy-drop ds k w lt = at-drop-more (λ rest. busy rest w) ds k no-duty lt
 
 -- The first rows of a table within its limits are within theirs.

@@ -49,13 +49,13 @@ pub fn response_time(table: &[Duty], row: usize) -> Option<u32>
 }
 
 // The smallest row that has no response time.
-pub fn first_late(table: &[Duty]) -> Option<usize>
+pub fn first_late(table: &[Duty]) -> Option<u32>
     requires { ⌜ all-within (now table) ≡ true ⌝ ∗ ⌜ length (now table) ≤ 16 ⌝ }
     ensures { λ r. ⌜ r ≡ first-late (now (table .entry)) ⌝ }
 {
     for row in 0..table.len() {
         if response_time(table, row).is_none() {
-            return Some(row);
+            return Some(row as u32);
         }
     }
     None

@@ -1,7 +1,7 @@
 ghost use mathlib.Core.Path.{_≡_};
 ghost use mathlib.Core.Bool.{true};
 ghost use Prim.Native.Nat.{_≤_};
-ghost use lib.ListN.{take};
+ghost use lib.ListN.{length, take};
 ghost use Rattle.model.specs.Table.{admitted};
 use model::Duty;
 
@@ -9,8 +9,9 @@ use model::Duty;
 // setting can exist in which some row has no response time.
 #[derive(Drop)]
 pub struct Setting {
-    duties: [Duty; 16],
-    len: usize,
+    pub(crate) duties: [Duty; 16],
+    pub(crate) len: usize,
     ghost fits: { len ≤ 16 },
+    ghost counts: { length (take len duties) ≡ len },
     ghost admits: { admitted (take len duties) ≡ true },
 }

@@ -9,14 +9,14 @@ use Rattle.table.proofs.analysis.busy.Needs as need
 
 -- What the turn adds, and the sum that remains to be added.
 turn : (c : need.After-ceil)
-  → c .loop-duty .sum
-  + getD (c .args .rows .now) (c .loop-duty .duty-index) no-duty .cost * c .ceil .result
-  + busy (drop (c .loop-duty .duty-index + 1) (c .args .rows .now)) (c .args .ticks)
-  ≡ busy (c .args .rows .now) (c .args .ticks)
+    → c .loop-duty .sum
+    + getD (c .args .rows .now) (c .loop-duty .duty-index) no-duty .cost * c .ceil .result
+    + busy (drop (c .loop-duty .duty-index + 1) (c .args .rows .now)) (c .args .ticks)
+    ≡ busy (c .args .rows .now) (c .args .ticks)
 turn c =
     let row = getD (c .args .rows .now) (c .loop-duty .duty-index) no-duty in
     let job : row .cost * c .ceil .result ≡ row .cost * ceil (c .args .ticks) (row .separation) =
-      ap (λ (n : ℕ). row .cost * n) (c .ceil .ensures) in
+    ap (λ (n : ℕ). row .cost * n) (c .ceil .ensures) in
     omega (arith, c .loop-duty .inv, busy-drop (c .args .rows .now) (c .loop-duty .duty-index) (c .args .ticks) (c .loop-duty-test .taken))
 
 pub ceil-requires : need.ceil-requires

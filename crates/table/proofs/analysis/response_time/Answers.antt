@@ -17,12 +17,12 @@ suffices-requires c κs =
 pub returns-then-suffices : need.returns-then-suffices
 returns-then-suffices c =
     sym (least-is (suffices (c .args .table .now) (c .args .row)) 1 _ (c .loop-ticks .ticks)
-      (record {
-        passed = sym (c .suffices .ensures) ∙ c .if-suffices .taken;
-        above = omega arith;
-        below = omega arith;
-        first = c .loop-ticks .inv
-      }))
+    (record {
+      passed = sym (c .suffices .ensures) ∙ c .if-suffices .taken;
+      above = omega arith;
+      below = omega arith;
+      first = c .loop-ticks .inv;
+    }))
 
 pub returns : need.returns
 returns c =
@@ -36,8 +36,8 @@ add·ticks c =
 pub returns-else-suffices : need.returns-else-suffices
 returns-else-suffices c =
     sym (least-none (suffices (c .args .table .now) (c .args .row)) 1 _
-      (λ v some v-below.
-        below-more (λ k. 1 ≤ k → suffices (c .args .table .now) (c .args .row) k ≡ false) (c .loop-ticks .ticks)
-          (λ k h some. c .loop-ticks .inv k some h)
-          (λ some. sym (c .if-suffices .ensures tt))
-          v (omega arith) some))
+    (λ v some v-below.
+    below-more (λ k. 1 ≤ k → suffices (c .args .table .now) (c .args .row) k ≡ false) (c .loop-ticks .ticks)
+    (λ k h some. c .loop-ticks .inv k some h)
+    (λ some. sym (c .if-suffices .ensures tt))
+    v (omega arith) some))
