@@ -5,6 +5,8 @@ pub mod Promise
 pub mod Queues
 pub mod Reckoning
 pub mod Refusals
+pub mod Responses
 pub mod Runs
 pub mod Searches
 pub mod Table
+pub mod Worked

@@ -4,6 +4,7 @@ mod duties;
 mod errands;
 mod refusals;
 mod rows;
+mod theorems;
 
 pub use calls::Answer;
 pub use calls::Call;
@@ -13,3 +14,5 @@ pub use errands::Errand;
 pub use refusals::Refusal;
 pub use rows::Row;
 pub use rows::RowCall;
+pub use theorems::response_is_least;
+pub use theorems::worked_examples;
