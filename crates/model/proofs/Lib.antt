@@ -1,1 +1,4 @@
+pub mod Ceil
+pub mod Demand
 pub mod Searches
+pub mod Sums
