@@ -50,9 +50,10 @@ pub need-run :
     (from clock : ℕ) (duty : Duty) (c d e x : ℕ)
     → 1 ≤ c → need from duty (row-after duty clock (Ready c d e) Run) x + 1 ≤ need from duty (Ready c d e) x
 need-run from clock duty c d e x some =
+    let jobs = duty .cost * ceil (x - e) (duty .separation) in
     cond-both (leb c 1) (Idle e) (Ready (pred c) d e) (λ row. need from duty row x + 1 ≤ need from duty (Ready c d e) x)
     (λ last. omega (arith, need-done from duty 0 d e x))
-    (λ more. omega arith)
+    (λ more. let fact : pred c + jobs + 1 ≤ c + jobs = omega arith in fact)
 
 -- and by at most one where its next release lies ahead.
 pub need-run-at-most :
@@ -60,6 +61,7 @@ pub need-run-at-most :
     → from ≤ e → need from duty (Ready c d e) x ≤ need from duty (row-after duty clock (Ready c d e) Run) x + 1
 need-run-at-most from clock duty c d e x ahead =
     let same : max e from ≡ e = omega arith in
+    let jobs = duty .cost * ceil (x - e) (duty .separation) in
     cond-both (leb c 1) (Idle e) (Ready (pred c) d e) (λ row. need from duty (Ready c d e) x ≤ need from duty row x + 1)
-    (λ last. rw same (omega (arith, leb-true c 1 last)))
-    (λ more. omega arith)
+    (λ last. let fact : c + jobs ≤ 0 + jobs + 1 = omega (arith, leb-true c 1 last) in rw same fact)
+    (λ more. let fact : c + jobs ≤ pred c + jobs + 1 = omega arith in fact)
