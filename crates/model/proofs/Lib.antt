@@ -1,4 +1,7 @@
+pub mod Admitted
 pub mod Ceil
 pub mod Demand
+pub mod Found
+pub mod Keeping
 pub mod Searches
 pub mod Sums
