@@ -1,5 +1,6 @@
 pub mod Admitted
 pub mod Ceil
+pub mod Covering
 pub mod Demand
 pub mod Found
 pub mod Keeping
