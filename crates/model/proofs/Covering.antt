@@ -1,14 +1,15 @@
 -- When a row is covered. Where its demand can be met by some clock within its window it is covered, even if that
 -- clock does not lie ahead: then none of the rows down to it has a job, and its response time serves.
 use Prim.Native.Nat.{ℕ, zero, suc, _+_, _-_, _*_, max, _≤_, _<_}
-use mathlib.Core.Path.{_≡_, refl, sym}
+use mathlib.Core.Path.{_≡_, refl, ap}
 use mathlib.Core.Bool.{Bool, true, false}
 use mathlib.Core.List.{List, [], _∷_}
 use mathlib.Core.Logic.{⊎-elim}
 use native.Mathlib.Omega.{arith}
 use lib.ListN.{length, take, replicate, length-replicate, getD-replicate}
-use Rattle.std.proofs.shelf.Tests.{cases-lt}
+use Rattle.std.proofs.shelf.Tests.{cases-lt, both-ways}
 use Rattle.model.specs.Kept.{kept}
+use Rattle.model.specs.Machine.{is-ready, ready-at}
 use Rattle.model.specs.Reckoning.{need, demand-at, window-end, row-at, no-row}
 use Rattle.model.specs.Table.{ceil, admitted, duty-at}
 use Rattle.model.specs.declared.duties.Duty.{Duty}
@@ -53,3 +54,41 @@ module _ (table : List Duty) (ok : admitted table ≡ true) where
       let open-long = needless-window clock (duty-at table i) (row-at rows i) x (numbers .each i short) (needless i (omega arith)) in
       (clock + w, omega arith, (omega arith, omega (arith, sum (clock + w), busy-is-sum w (suc i) table short))))
       (cases-lt clock x)
+
+-- A row without a job needs nothing up to the first clock at which it may be released, and its window is open then.
+pub idle-needs-none : (from : ℕ) (duty : Duty) (row : Row) → is-ready row ≡ false → need from duty row from ≡ 0
+idle-needs-none from duty (Idle e) idle = need-idle-none from duty e from (omega arith)
+idle-needs-none from duty (Ready c d e) idle = absurd (both-ways true idle refl)
+
+pub idle-window : (from : ℕ) (duty : Duty) (row : Row) → is-ready row ≡ false → from + duty .deadline ≤ window-end from duty row
+idle-window from duty (Idle e) idle = omega arith
+idle-window from duty (Ready c d e) idle = absurd (both-ways true idle refl)
+
+-- Where no row down to row i has a job, its demand is met at once.
+pub idle-met :
+    (table : List Duty) (clock : ℕ) (rows : List Row)
+    → length rows ≡ length table
+    → (i : ℕ)
+    → i < length table
+    → ((k : ℕ) → k < suc i → ready-at rows k ≡ false)
+    → Met clock table rows i clock
+idle-met table clock rows same i short idle =
+    let none =
+      sum-none (need-at clock table rows clock) (suc i)
+      (λ k h. idle-needs-none clock (duty-at table k) (row-at rows k) (idle k h)) in
+    (omega (arith, idle-window clock (duty-at table i) (row-at rows i) (idle i (omega arith))),
+    omega (arith, demand-is-sum clock clock (suc i) table rows short (omega arith)))
+
+-- The rows of a fresh machine are kept.
+pub fresh-kept : (table : List Duty) → admitted table ≡ true → kept 0 table (replicate (length table) (Idle 0)) ≡ true
+fresh-kept table ok =
+    let rows = replicate (length table) (Idle 0) in
+    let same : length rows ≡ length table = length-replicate (length table) (Idle 0) in
+    let at : (i : ℕ) → i < length table → row-at rows i ≡ Idle 0 = λ i short. getD-replicate (length table) i (Idle 0) no-row short in
+    let numbers : Numbers 0 table rows =
+      record { same-length = same; each = λ i short. rw (at i short) (omega arith) } in
+    kept-from 0 table rows
+    (record {
+      numbers = numbers;
+      cover = λ i short. met-covers table ok 0 rows numbers i short 0 (idle-met table 0 rows same i short (λ k h. ap is-ready (at k (omega arith))));
+    })
