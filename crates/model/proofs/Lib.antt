@@ -1,3 +1,4 @@
+pub mod Accepting
 pub mod Admitted
 pub mod Ceil
 pub mod Covering
