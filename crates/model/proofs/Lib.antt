@@ -3,7 +3,9 @@ pub mod Admitted
 pub mod Ceil
 pub mod Covering
 pub mod Demand
+pub mod Extremes
 pub mod Found
 pub mod Keeping
 pub mod Searches
 pub mod Sums
+pub mod Ticks
