@@ -78,14 +78,14 @@ row-call-eases clock duty (Idle e) Run limits numbers ahead accepted =
 row-call-eases clock duty (Ready c d e) Run limits numbers ahead accepted =
     record {
       numbers =
-        cond-both (leb c 1) (Idle e) (Ready (pred c) d e) (Row-numbers clock duty)
-        (λ last. numbers .3)
-        (λ more. (omega (arith, leb-false c 1 more), omega (arith, numbers .1), numbers .2, numbers .3));
+          cond-both (leb c 1) (Idle e) (Ready (pred c) d e) (Row-numbers clock duty)
+          (λ last. numbers .3)
+          (λ more. (omega (arith, leb-false c 1 more), omega (arith, numbers .1), numbers .2, numbers .3));
       needs = λ x later. omega (arith, need-run clock clock duty c d e x (numbers .0));
       ends =
-        cond-both (leb c 1) (Idle e) (Ready (pred c) d e) (λ row. window-end clock duty (Ready c d e) ≤ window-end clock duty row)
-        (λ last. omega (arith, limits, numbers))
-        (λ more. omega arith);
+          cond-both (leb c 1) (Idle e) (Ready (pred c) d e) (λ row. window-end clock duty (Ready c d e) ≤ window-end clock duty row)
+          (λ last. omega (arith, limits, numbers))
+          (λ more. omega arith);
     }
 
 -- What holds of the new row and of every other holds of each row once the new one is set.
@@ -119,20 +119,29 @@ module _ (table : List Duty) (ok : admitted table ≡ true) where
         numbers = record {
           same-length = same;
           each = at-set (λ i r. i < length table → Row-numbers clock (duty-at table i) r) rows k row short
-            (λ _. eased .numbers) (λ i other. keeping .numbers .each i);
+              (λ _. eased .numbers) (λ i other. keeping .numbers .each i);
         };
         cover = λ i inside-table.
-          let (x, ahead, (inside, met)) = keeping .cover i inside-table in
-          let needs : (j : ℕ) → need clock (duty-at table j) (row-at (set rows k row) j) x ≤ need clock (duty-at table j) (row-at rows j) x =
+            let (x, ahead, (inside, met)) = keeping .cover i inside-table in
+            let needs : (j : ℕ) → need clock (duty-at table j) (row-at (set rows k row) j) x ≤ need clock (duty-at table j) (row-at rows j) x =
             at-set (λ j r. need clock (duty-at table j) r x ≤ need clock (duty-at table j) (row-at rows j) x) rows k row short
             (eased .needs x ahead) (λ j other. omega arith) in
-          let ends : window-end clock (duty-at table i) (row-at rows i) ≤ window-end clock (duty-at table i) (row-at (set rows k row) i) =
+            let ends : window-end clock (duty-at table i) (row-at rows i) ≤ window-end clock (duty-at table i) (row-at (set rows k row) i) =
             at-set (λ j r. window-end clock (duty-at table j) (row-at rows j) ≤ window-end clock (duty-at table j) r) rows k row short
             (eased .ends) (λ j other. omega arith) i in
-          let less = sum-le (need-at clock table (set rows k row) x) (need-at clock table rows x) (suc i) (λ j h. needs j) in
-          (x, ahead, (omega arith, omega (arith, less,
-            demand-is-sum clock x (suc i) table rows inside-table (omega (arith, keeping .numbers .same-length)),
-            demand-is-sum clock x (suc i) table (set rows k row) inside-table (omega arith))));
+            let less = sum-le (need-at clock table (set rows k row) x) (need-at clock table rows x) (suc i) (λ j h. needs j) in (
+              x,
+              ahead,
+              (
+                omega arith,
+                omega (
+                  arith,
+                  less,
+                  demand-is-sum clock x (suc i) table rows inside-table (omega (arith, keeping .numbers .same-length)),
+                  demand-is-sum clock x (suc i) table (set rows k row) inside-table (omega arith),
+                ),
+              ),
+            );
       }
 
   -- Every accepted call to a row keeps the invariant at the same clock.

@@ -48,6 +48,6 @@ module _ (table : List Duty) (ok : admitted table ≡ true) where
   admitted-response i short =
       let (sizes, responses) = and-parts (leb (length table) 16 && all-within table) (not (isSome (first-late table))) ok in
       let on-time : late table i ≡ false =
-        search-fails (late table) 0 (length table) (not-true (isSome (first-late table)) responses) i (omega arith) (omega arith) in
+      search-fails (late table) 0 (length table) (not-true (isSome (first-late table)) responses) i (omega arith) (omega arith) in
       let (w, found) = search-finds (suffices table i) 1 (duty-at table i .deadline) (not-false (isSome (response table i)) on-time) in
       (w, found .above, omega (arith, found .below), leb-true (busy (take (suc i) table) w) w (found .passed))

@@ -46,11 +46,11 @@ module _ (table : List Duty) (ok : admitted table ≡ true) where
       (λ (over : x ≤ clock).
       let sum = λ (y : ℕ). demand-is-sum clock y (suc i) table rows short (omega (arith, numbers .same-length)) in
       let needless : (k : ℕ) → k < suc i → need-at clock table rows x k ≤ 0 =
-        λ k h. omega (arith, sum-has (need-at clock table rows x) k (suc i) h, sum x) in
+      λ k h. omega (arith, sum-has (need-at clock table rows x) k (suc i) h, sum x) in
       let (w, some, fits, enough) = admitted-response table ok i short in
       let less =
-        sum-le (need-at clock table rows (clock + w)) (busy-at table w) (suc i)
-        (λ k h. needless-busy clock (duty-at table k) (row-at rows k) x w (numbers .each k (omega arith)) (needless k h)) in
+      sum-le (need-at clock table rows (clock + w)) (busy-at table w) (suc i)
+      (λ k h. needless-busy clock (duty-at table k) (row-at rows k) x w (numbers .each k (omega arith)) (needless k h)) in
       let open-long = needless-window clock (duty-at table i) (row-at rows i) x (numbers .each i short) (needless i (omega arith)) in
       (clock + w, omega arith, (omega arith, omega (arith, sum (clock + w), busy-is-sum w (suc i) table short))))
       (cases-lt clock x)
@@ -74,10 +74,11 @@ pub idle-met :
     → Met clock table rows i clock
 idle-met table clock rows same i short idle =
     let none =
-      sum-none (need-at clock table rows clock) (suc i)
-      (λ k h. idle-needs-none clock (duty-at table k) (row-at rows k) (idle k h)) in
-    (omega (arith, idle-window clock (duty-at table i) (row-at rows i) (idle i (omega arith))),
-    omega (arith, demand-is-sum clock clock (suc i) table rows short (omega arith)))
+    sum-none (need-at clock table rows clock) (suc i)
+    (λ k h. idle-needs-none clock (duty-at table k) (row-at rows k) (idle k h)) in (
+      omega (arith, idle-window clock (duty-at table i) (row-at rows i) (idle i (omega arith))),
+      omega (arith, demand-is-sum clock clock (suc i) table rows short (omega arith)),
+    )
 
 -- The rows of a fresh machine are kept.
 pub fresh-kept : (table : List Duty) → admitted table ≡ true → kept 0 table (replicate (length table) (Idle 0)) ≡ true
@@ -86,7 +87,7 @@ fresh-kept table ok =
     let same : length rows ≡ length table = length-replicate (length table) (Idle 0) in
     let at : (i : ℕ) → i < length table → row-at rows i ≡ Idle 0 = λ i short. getD-replicate (length table) i (Idle 0) no-row short in
     let numbers : Numbers 0 table rows =
-      record { same-length = same; each = λ i short. rw (at i short) (omega arith) } in
+    record { same-length = same; each = λ i short. rw (at i short) (omega arith) } in
     kept-from 0 table rows
     (record {
       numbers = numbers;

@@ -28,11 +28,12 @@ row-kept-gives clock duty (Idle e) h = leb-true e (clock + duty .separation) h
 row-kept-gives clock duty (Ready c d e) h =
     let (rest, near) = and-parts (leb 1 c && leb c (duty .cost) && eqb (d + duty .separation) (e + duty .deadline)) (leb e (clock + duty .separation)) h in
     let (units, apart) = and-parts (leb 1 c && leb c (duty .cost)) (eqb (d + duty .separation) (e + duty .deadline)) rest in
-    let (some, few) = and-parts (leb 1 c) (leb c (duty .cost)) units in
-    (leb-true 1 c some,
-    leb-true c (duty .cost) few,
-    eqb-true (d + duty .separation) (e + duty .deadline) apart,
-    leb-true e (clock + duty .separation) near)
+    let (some, few) = and-parts (leb 1 c) (leb c (duty .cost)) units in (
+      leb-true 1 c some,
+      leb-true c (duty .cost) few,
+      eqb-true (d + duty .separation) (e + duty .deadline) apart,
+      leb-true e (clock + duty .separation) near,
+    )
 
 pub row-kept-from : (clock : ℕ) (duty : Duty) (row : Row) → Row-numbers clock duty row → row-kept clock duty row ≡ true
 row-kept-from clock duty (Idle e) h = le-leb e (clock + duty .separation) h

@@ -28,10 +28,11 @@ sum-less f g k zero in-range each less = absurd (omega arith)
 sum-less f g zero (suc m) in-range each less =
     omega (arith, sum-le (λ i. f (suc i)) (λ i. g (suc i)) m (λ i h. each (suc i) (omega arith)))
 sum-less f g (suc k) (suc m) in-range each less =
-    omega
-    (arith,
-    each 0 (omega arith),
-    sum-less (λ i. f (suc i)) (λ i. g (suc i)) k m (omega arith) (λ i h. each (suc i) (omega arith)) less)
+    omega (
+      arith,
+      each 0 (omega arith),
+      sum-less (λ i. f (suc i)) (λ i. g (suc i)) k m (omega arith) (λ i h. each (suc i) (omega arith)) less,
+    )
 
 -- At most as much in each row but k, and at most one more there: at most one more in all.
 pub sum-one-more :
@@ -42,10 +43,11 @@ sum-one-more f g zero (suc m) each more =
     omega
     (arith, more, sum-le (λ i. f (suc i)) (λ i. g (suc i)) m (λ i h. each (suc i) (omega arith) (omega arith)))
 sum-one-more f g (suc k) (suc m) each more =
-    omega
-    (arith,
-    each 0 (omega arith) (omega arith),
-    sum-one-more (λ i. f (suc i)) (λ i. g (suc i)) k m (λ i h other. each (suc i) (omega arith) (λ e. other (omega arith))) more)
+    omega (
+      arith,
+      each 0 (omega arith) (omega arith),
+      sum-one-more (λ i. f (suc i)) (λ i. g (suc i)) k m (λ i h other. each (suc i) (omega arith) (λ e. other (omega arith))) more,
+    )
 
 -- One row of a sum is at most the sum.
 pub sum-has : (f : ℕ → ℕ) (k m : ℕ) → k < m → f k ≤ sum-to f m

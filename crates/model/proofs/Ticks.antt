@@ -93,22 +93,27 @@ module _ (table : List Duty) (ok : admitted table ≡ true) where
       let row = row-after (duty-at table k) clock (row-at rows k) Run in
       let eased = worked clock rows k keeping (omega arith) in
       let needs : (j : ℕ) → need (clock + 1) (duty-at table j) (row-at (set rows k row) j) x ≤ need clock (duty-at table j) (row-at rows j) x =
-        at-set (λ j r. need (clock + 1) (duty-at table j) r x ≤ need clock (duty-at table j) (row-at rows j) x) rows k row short
-        (omega (arith, eased .needs x ahead, need-later clock (clock + 1) (duty-at table k) row x (omega arith)))
-        (λ j other. need-later clock (clock + 1) (duty-at table j) (row-at rows j) x (omega arith)) in
+      at-set (λ j r. need (clock + 1) (duty-at table j) r x ≤ need clock (duty-at table j) (row-at rows j) x) rows k row short
+      (omega (arith, eased .needs x ahead, need-later clock (clock + 1) (duty-at table k) row x (omega arith)))
+      (λ j other. need-later clock (clock + 1) (duty-at table j) (row-at rows j) x (omega arith)) in
       let one-less : need (clock + 1) (duty-at table k) (row-at (set rows k row) k) x + 1 ≤ need clock (duty-at table k) (row-at rows k) x =
-        rw (getD-set-same rows k row no-row short)
-        (omega (arith,
+      rw (getD-set-same rows k row no-row short)
+      (omega (
+        arith,
         run-needs-less clock clock (duty-at table k) (row-at rows k) x ready (keeping .numbers .each k (omega arith)),
-        need-later clock (clock + 1) (duty-at table k) row x (omega arith))) in
+        need-later clock (clock + 1) (duty-at table k) row x (omega arith),
+      )) in
       let less = sum-less (need-at (clock + 1) table (set rows k row) x) (need-at clock table rows x) k (suc i) (omega arith) (λ j h. needs j) one-less in
       let ends : window-end clock (duty-at table i) (row-at rows i) ≤ window-end clock (duty-at table i) (row-at (set rows k row) i) =
-        at-set (λ j r. window-end clock (duty-at table j) (row-at rows j) ≤ window-end clock (duty-at table j) r) rows k row short
-        (eased .ends) (λ j other. omega arith) i in
-      (omega (arith, window-later clock (duty-at table i) (row-at (set rows k row) i)),
-      omega (arith,
-      demand-is-sum clock x (suc i) table rows inside-table (omega (arith, keeping .numbers .same-length)),
-      demand-is-sum (clock + 1) x (suc i) table (set rows k row) inside-table (omega (arith, length-set rows k row, keeping .numbers .same-length))))
+      at-set (λ j r. window-end clock (duty-at table j) (row-at rows j) ≤ window-end clock (duty-at table j) r) rows k row short
+      (eased .ends) (λ j other. omega arith) i in (
+        omega (arith, window-later clock (duty-at table i) (row-at (set rows k row) i)),
+        omega (
+          arith,
+          demand-is-sum clock x (suc i) table rows inside-table (omega (arith, keeping .numbers .same-length)),
+          demand-is-sum (clock + 1) x (suc i) table (set rows k row) inside-table (omega (arith, length-set rows k row, keeping .numbers .same-length)),
+        ),
+      )
 
   -- Row k, which has a job, has the tick, and no row above it has a job.
   pub run-keeps :
@@ -125,16 +130,16 @@ module _ (table : List Duty) (ok : admitted table ≡ true) where
       record {
         numbers = later;
         cover = λ i inside-table.
-          ⊎-elim
-          (λ (above : i < k).
-          met-covers table ok (clock + 1) (set rows k row) later i inside-table (clock + 1)
-          (idle-met table (clock + 1) (set rows k row) (later .same-length) i inside-table
-          (λ j h. ap is-ready (getD-set-other rows k j row no-row (λ e. omega arith)) ∙ first .first j (omega arith) (omega arith))))
-          (λ (below : k ≤ i).
-          let (x, ahead, met) = keeping .cover i inside-table in
-          met-covers table ok (clock + 1) (set rows k row) later i inside-table x
-          (run-met clock rows k i x keeping (first .passed) below inside-table ahead met))
-          (cases-lt i k);
+            ⊎-elim
+            (λ (above : i < k).
+            met-covers table ok (clock + 1) (set rows k row) later i inside-table (clock + 1)
+            (idle-met table (clock + 1) (set rows k row) (later .same-length) i inside-table
+            (λ j h. ap is-ready (getD-set-other rows k j row no-row (λ e. omega arith)) ∙ first .first j (omega arith) (omega arith))))
+            (λ (below : k ≤ i).
+            let (x, ahead, met) = keeping .cover i inside-table in
+            met-covers table ok (clock + 1) (set rows k row) later i inside-table x
+            (run-met clock rows k i x keeping (first .passed) below inside-table ahead met))
+            (cases-lt i k);
       }
 
   -- A tick that goes to the duties keeps the invariant, from the clock to the next.
@@ -150,8 +155,8 @@ module _ (table : List Duty) (ok : admitted table ≡ true) where
       (record {
         numbers = later;
         cover = λ i inside-table.
-          met-covers table ok (clock + 1) rows later i inside-table (clock + 1)
-          (idle-met table (clock + 1) rows (later .same-length) i inside-table (λ k h. idle k (omega (arith, later .same-length))));
+            met-covers table ok (clock + 1) rows later i inside-table (clock + 1)
+            (idle-met table (clock + 1) rows (later .same-length) i inside-table (λ k h. idle k (omega (arith, later .same-length))));
       })))
       (λ (k, found, first). rw (found, duty-tick) (kept-from (clock + 1) table (rows-after table clock rows k Run) (run-keeps clock rows k keeping first)))
       (turn-cases rows)
@@ -166,7 +171,7 @@ module _ (table : List Duty) (ok : admitted table ≡ true) where
       (record {
         numbers = later;
         cover = λ i inside-table.
-          let (w, inside, taken) = greatest-taken (spare (clock + 1) clock table rows i) (window (clock + 1) clock table rows i) in
-          let row-too = slack-least (clock + 1) clock table rows i inside-table in
-          met-covers table ok (clock + 1) rows later i inside-table (clock + w) (omega arith, omega arith);
+            let (w, inside, taken) = greatest-taken (spare (clock + 1) clock table rows i) (window (clock + 1) clock table rows i) in
+            let row-too = slack-least (clock + 1) clock table rows i inside-table in
+            met-covers table ok (clock + 1) rows later i inside-table (clock + w) (omega arith, omega arith);
       })
