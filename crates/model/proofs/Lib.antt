@@ -5,6 +5,7 @@ pub mod Covering
 pub mod Demand
 pub mod Extremes
 pub mod Found
+pub mod Futures
 pub mod Keeping
 pub mod Searches
 pub mod Sums
