@@ -1,2 +1,13 @@
+pub mod Accepting
+pub mod Admitted
+pub mod Ceil
+pub mod Covering
+pub mod Demand
+pub mod Extremes
+pub mod Found
+pub mod Futures
+pub mod Keeping
 pub mod Responses
 pub mod Searches
+pub mod Sums
+pub mod Ticks

@@ -1,0 +1,109 @@
+-- Lawful futures from kept rows never miss, so that a tick spared with slack left can hurt nobody.
+use Prim.Native.Nat.{ℕ, zero, suc, _+_, _-_, max, _≤_, _<_}
+use mathlib.Core.Path.{_≡_, refl, sym, ap}
+use mathlib.Core.Bool.{Bool, true, false, _||_}
+use mathlib.Core.List.{List, [], _∷_}
+use mathlib.Core.Logic.{⊎-elim}
+use native.Mathlib.Omega.{arith}
+use lib.Dec.{eqb}
+use lib.ListN.{length}
+use Rattle.std.proofs.shelf.Tests.{cases-bool, both-ways, or-cases, or-left, or-right, eqb-true, eq-eqb}
+use Rattle.model.specs.Futures.{Move, release, finish, tick, Lawful, overdue, misses, Safe}
+use Rattle.model.specs.Kept.{kept}
+use Rattle.model.specs.Machine.{rows-after, duty-tick}
+use Rattle.model.specs.Reckoning.{demand-at, window, window-end, table-slack, row-at}
+use Rattle.model.specs.Table.{admitted, duty-at}
+use Rattle.model.specs.declared.duties.Duty.{Duty}
+use Rattle.model.specs.declared.rows.Row.{Row}
+use Rattle.model.specs.declared.rows.Row.the-variants.{Idle, Ready}
+use Rattle.model.specs.declared.rows.RowCall.the-variants.{Release, Done}
+use Rattle.model.proofs.Accepting.{window-open, call-keeps}
+use Rattle.model.proofs.Demand.{need-later}
+use Rattle.model.proofs.Keeping.{Keeping, kept-gives}
+use Rattle.model.proofs.Sums.{sum-le, need-at, demand-is-sum}
+use Rattle.model.proofs.Ticks.{window-later, duty-tick-keeps, spare-tick-keeps}
+
+-- The clock is overdue only where it is the deadline of some ready row,
+pub overdue-row :
+    (clock : ℕ) (rows : List Row) → overdue clock rows ≡ true → (i c e : ℕ) × (i < length rows) × (row-at rows i ≡ Ready c clock e)
+overdue-row clock [] late = absurd (both-ways false refl late)
+overdue-row clock (Idle e ∷ rows) late =
+    let (i, c, e′, short, at) = overdue-row clock rows late in
+    (suc i, c, e′, omega arith, at)
+overdue-row clock (Ready c d e ∷ rows) late =
+    ⊎-elim
+    (λ here. (0, c, e, omega arith, ap (λ x. Ready c x e) (sym (eqb-true clock d here))))
+    (λ below. let (i, c′, e′, short, at) = overdue-row clock rows below in (suc i, c′, e′, omega arith, at))
+    (or-cases (eqb clock d) (overdue clock rows) late)
+
+-- and wherever it is.
+pub row-overdue :
+    (clock : ℕ) (rows : List Row) (i c e : ℕ) → i < length rows → row-at rows i ≡ Ready c clock e → overdue clock rows ≡ true
+row-overdue clock [] i c e short at = absurd (omega arith)
+row-overdue clock (Idle e ∷ rows) zero c e′ short at = absurd (let z : _≡_ {A = ℕ} 0 1 = cc in omega arith)
+row-overdue clock (Idle e ∷ rows) (suc i) c e′ short at = row-overdue clock rows i c e′ (omega arith) at
+row-overdue clock (Ready c d e ∷ rows) zero c′ e′ short at =
+    or-left (eqb clock d) (overdue clock rows) (eq-eqb clock d (cc))
+row-overdue clock (Ready c d e ∷ rows) (suc i) c′ e′ short at =
+    or-right (eqb clock d) (overdue clock rows) (row-overdue clock rows i c′ e′ (omega arith) at)
+
+module _ (table : List Duty) (ok : admitted table ≡ true) where
+  -- The clock has not reached the deadline of any job,
+  pub kept-before-due :
+      (clock : ℕ) (rows : List Row) → kept clock table rows ≡ true
+      → (i c d e : ℕ) → i < length rows → row-at rows i ≡ Ready c d e → clock < d
+  kept-before-due clock rows keeps i c d e short at =
+      let keeping = kept-gives clock table rows keeps in
+      let ahead = window-open table ok clock rows keeping i (omega (arith, keeping .numbers .same-length)) in
+      rw at at ahead
+
+  -- so none is overdue,
+  pub kept-not-overdue : (clock : ℕ) (rows : List Row) → kept clock table rows ≡ true → overdue clock rows ≡ false
+  kept-not-overdue clock rows keeps =
+      ⊎-elim
+      (λ late. let (i, c, e, short, at) = overdue-row clock rows late in
+      absurd (omega (arith, kept-before-due clock rows keeps i c clock e short at)))
+      (λ none. none)
+      (cases-bool (overdue clock rows))
+
+  -- and no row's slack is below 0: some number of ticks within its window covers its demand.
+  pub kept-slack :
+      (clock : ℕ) (rows : List Row) → kept clock table rows ≡ true
+      → (i : ℕ) → i < length table
+      → (w : ℕ) × (w ≤ window (clock + 1) clock table rows i) × (demand-at (clock + 1) table rows i (clock + w) ≤ w)
+  kept-slack clock rows keeps i short =
+      let keeping = kept-gives clock table rows keeps in
+      let (x, ahead, (inside, met)) = keeping .cover i short in
+      let at : clock + (x - clock) ≡ x = omega arith in
+      let enough : i < length rows = omega (arith, keeping .numbers .same-length) in
+      let less =
+        sum-le (need-at (clock + 1) table rows x) (need-at clock table rows x) (suc i)
+        (λ k h. need-later clock (clock + 1) (duty-at table k) (row-at rows k) x (omega arith)) in
+      (x - clock,
+      omega (arith, window-later clock (duty-at table i) (row-at rows i)),
+      rw at (omega (arith, demand-is-sum clock x (suc i) table rows short enough, demand-is-sum (clock + 1) x (suc i) table rows short enough)))
+
+  -- No lawful future from kept rows misses.
+  pub kept-safe : (clock : ℕ) (rows : List Row) → kept clock table rows ≡ true → Safe table clock rows
+  kept-safe clock rows keeps [] lawful missed = both-ways (overdue clock rows) (kept-not-overdue clock rows keeps) missed
+  kept-safe clock rows keeps (release i ∷ moves) (accepted, lawful) missed =
+      ⊎-elim
+      (both-ways (overdue clock rows) (kept-not-overdue clock rows keeps))
+      (kept-safe clock (rows-after table clock rows i Release) (call-keeps table ok clock rows i Release keeps accepted) moves lawful)
+      (or-cases (overdue clock rows) (misses table clock (rows-after table clock rows i Release) moves) missed)
+  kept-safe clock rows keeps (finish i ∷ moves) (accepted, lawful) missed =
+      ⊎-elim
+      (both-ways (overdue clock rows) (kept-not-overdue clock rows keeps))
+      (kept-safe clock (rows-after table clock rows i Done) (call-keeps table ok clock rows i Done keeps accepted) moves lawful)
+      (or-cases (overdue clock rows) (misses table clock (rows-after table clock rows i Done) moves) missed)
+  kept-safe clock rows keeps (tick ∷ moves) lawful missed =
+      ⊎-elim
+      (both-ways (overdue clock rows) (kept-not-overdue clock rows keeps))
+      (kept-safe (clock + 1) (duty-tick table clock rows) (duty-tick-keeps table ok clock rows keeps) moves lawful)
+      (or-cases (overdue clock rows) (misses table (clock + 1) (duty-tick table clock rows) moves) missed)
+
+  -- Where the table's slack is at least 1, a tick may be spared.
+  pub slack-safe :
+      (clock : ℕ) (rows : List Row)
+      → kept clock table rows ≡ true → 1 ≤ table-slack (clock + 1) clock table rows → Safe table (clock + 1) rows
+  slack-safe clock rows keeps slack = kept-safe (clock + 1) rows (spare-tick-keeps table ok clock rows keeps slack)
