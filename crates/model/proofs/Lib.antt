@@ -9,5 +9,6 @@ pub mod Futures
 pub mod Keeping
 pub mod Responses
 pub mod Searches
+pub mod Slack
 pub mod Sums
 pub mod Ticks

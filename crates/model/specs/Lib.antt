@@ -1,4 +1,5 @@
 pub mod Futures
+pub mod Idle
 pub mod Kept
 pub mod Machine
 pub mod Promise

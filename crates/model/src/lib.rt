@@ -15,4 +15,6 @@ pub use refusals::Refusal;
 pub use rows::Row;
 pub use rows::RowCall;
 pub use theorems::response_is_least;
+pub use theorems::slack_is_greatest;
+pub use theorems::slack_is_idle_ticks;
 pub use theorems::worked_examples;
