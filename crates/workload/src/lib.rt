@@ -1,0 +1,3 @@
+// The hard side of the dispatcher: a table, the state of each of its rows and the clock, with the exact slack.
+mod streams;
+mod stretches;
