@@ -13,11 +13,12 @@ use Rattle.model.specs.Table.{busy, within-limits, all-within, suffices, respo
 use Rattle.model.specs.declared.duties.Duty.{Duty}
 use Rattle.model.proofs.Found.{search-finds, search-fails}
 
--- 1 ≤ cost ≤ deadline ≤ separation.
+-- 1 ≤ cost ≤ deadline ≤ separation ≤ 4,096.
 pub record Limits (duty : Duty) : Type 0 where
   pub cost-some : 1 ≤ duty .cost
   pub cost-fits : duty .cost ≤ duty .deadline
   pub deadline-fits : duty .deadline ≤ duty .separation
+  pub separation-fits : duty .separation ≤ 4096
 
 pub limits-of : (duty : Duty) → within-limits duty ≡ true → Limits duty
 limits-of duty h =
@@ -28,6 +29,7 @@ limits-of duty h =
       cost-some = leb-true 1 (duty .cost) some;
       cost-fits = leb-true (duty .cost) (duty .deadline) fits;
       deadline-fits = leb-true (duty .deadline) (duty .separation) apart;
+      separation-fits = leb-true (duty .separation) 4096 small;
     }
 
 pub all-within-at : (table : List Duty) → all-within table ≡ true → (i : ℕ) → i < length table → Limits (duty-at table i)

@@ -1,2 +1,5 @@
+pub mod Ahead
 pub mod Idling
+pub mod Minimum
+pub mod Reckoned
 pub mod Tame

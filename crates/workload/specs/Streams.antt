@@ -3,7 +3,10 @@ use Prim.Native.Nat.{ℕ, _+_, _-_, _*_}
 use mathlib.Core.Bool.{Bool, true, _&&_}
 use mathlib.Core.List.{List, [], _∷_}
 use lib.Dec.{leb}
+use Rattle.model.specs.Reckoning.{left-of, next-release}
 use Rattle.model.specs.Table.{ceil}
+use Rattle.model.specs.declared.duties.Duty.{Duty}
+use Rattle.model.specs.declared.rows.Row.{Row}
 use Rattle.workload.specs.declared.streams.Stream.{Stream}
 
 -- What a stream asks for within w ticks.
@@ -22,3 +25,19 @@ tame s = leb (s .left) 4096 && leb (s .first) 4096 && leb (s .cost) 4096 && leb 
 abbrev pub all-tame : List Stream → Bool
 all-tame [] = true
 all-tame (s ∷ ss) = tame s && all-tame ss
+
+-- The stream of a row from a clock on, with the releases for the clock over.
+abbrev pub stream-of : ℕ → Duty → Row → Stream
+stream-of clock duty row =
+    record {
+      left = left-of row;
+      first = next-release (clock + 1) row - clock;
+      cost = duty .cost;
+      separation = duty .separation;
+    }
+
+-- The streams of all rows.
+abbrev pub streams-of : ℕ → List Duty → List Row → List Stream
+streams-of clock [] rows = []
+streams-of clock (duty ∷ table) [] = []
+streams-of clock (duty ∷ table) (row ∷ rows) = stream-of clock duty row ∷ streams-of clock table rows
