@@ -7,6 +7,7 @@ pub mod Extremes
 pub mod Found
 pub mod Futures
 pub mod Keeping
+pub mod Missing
 pub mod Searches
 pub mod Sums
 pub mod Ticks
