@@ -77,11 +77,12 @@ module _ (table : List Duty) (ok : admitted table ≡ true) where
       let at : clock + (x - clock) ≡ x = omega arith in
       let enough : i < length rows = omega (arith, keeping .numbers .same-length) in
       let less =
-        sum-le (need-at (clock + 1) table rows x) (need-at clock table rows x) (suc i)
-        (λ k h. need-later clock (clock + 1) (duty-at table k) (row-at rows k) x (omega arith)) in
-      (x - clock,
-      omega (arith, window-later clock (duty-at table i) (row-at rows i)),
-      rw at (omega (arith, demand-is-sum clock x (suc i) table rows short enough, demand-is-sum (clock + 1) x (suc i) table rows short enough)))
+      sum-le (need-at (clock + 1) table rows x) (need-at clock table rows x) (suc i)
+      (λ k h. need-later clock (clock + 1) (duty-at table k) (row-at rows k) x (omega arith)) in (
+        x - clock,
+        omega (arith, window-later clock (duty-at table i) (row-at rows i)),
+        rw at (omega (arith, demand-is-sum clock x (suc i) table rows short enough, demand-is-sum (clock + 1) x (suc i) table rows short enough)),
+      )
 
   -- No lawful future from kept rows misses.
   pub kept-safe : (clock : ℕ) (rows : List Row) → kept clock table rows ≡ true → Safe table clock rows

@@ -79,6 +79,29 @@ still-open clock duty (Ready c d e) limits timely passed =
     (λ over. absurd (timely c e (ap (λ x. Ready c x e) (omega arith))))
     (cases-lt clock d)
 
+-- A tick of work takes at most one from the need of a row whose window is open, and leaves its window where the row
+-- still has its job.
+pub work-needs :
+    (clock : ℕ) (duty : Duty) (row : Row) (x : ℕ)
+    → Limits duty
+    → Row-numbers clock duty row
+    → is-ready row ≡ true
+    → clock < window-end clock duty row
+    → need clock duty row x ≤ need (clock + 1) duty (row-after duty clock row Run) x + 1
+work-needs clock duty (Idle e) x limits numbers ready ahead = absurd (both-ways false refl ready)
+work-needs clock duty (Ready c d e) x limits numbers ready ahead =
+    need-run-at-most (clock + 1) clock duty c d e x (omega (arith, limits, numbers))
+
+pub work-window :
+    (clock : ℕ) (duty : Duty) (row : Row)
+    → is-ready (row-after duty clock row Run) ≡ true → window-end (clock + 1) duty (row-after duty clock row Run) ≡ window-end clock duty row
+work-window clock duty (Idle e) ready = absurd (both-ways false refl ready)
+work-window clock duty (Ready c d e) ready =
+    ⊎-elim
+    (λ (last : leb c 1 ≡ true). absurd (both-ways false refl (rw (last, cond) at ready)))
+    (λ (more : leb c 1 ≡ false). rw (more, cond))
+    (cases-bool (leb c 1))
+
 module _ (table : List Duty) (ok : admitted table ≡ true) (i end : ℕ) (inside : i < length table) where
   -- Row i's window ends at the clock `end`, and up to each clock till then its demand is more than the ticks can give.
   pub record Doomed (clock : ℕ) (rows : List Row) : Type 0 where
@@ -107,31 +130,31 @@ module _ (table : List Duty) (ok : admitted table ≡ true) (i end : ℕ) (insid
       let there : k < length rows = omega (arith, doomed .numbers .same-length) in
       let row = row-after (duty-at table k) clock (row-at rows k) Release in
       let later : Numbers clock table (set rows k row) =
-        record {
-          same-length = omega (arith, length-set rows k row, doomed .numbers .same-length);
-          each =
+      record {
+        same-length = omega (arith, length-set rows k row, doomed .numbers .same-length);
+        each =
             at-set (λ j r. j < length table → Row-numbers clock (duty-at table j) r) rows k row there
             (λ _. rw at (limits .cost-some, omega arith, omega arith, omega arith)) (λ j other. doomed .numbers .each j);
-        } in
+      } in
       record {
         numbers = later;
         safe =
-          safe-release table clock rows k (doomed .safe)
-          (cond-true (ltb k (length rows)) (row-refusal clock (row-at rows k) Release) (1 ∷ []) (lt-ltb k (length rows) there)
-          ∙ rw at (cond-false (ltb clock e) (5 ∷ []) [] (le-ltb clock e allowed)));
+            safe-release table clock rows k (doomed .safe)
+            (cond-true (ltb k (length rows)) (row-refusal clock (row-at rows k) Release) (1 ∷ []) (lt-ltb k (length rows) there)
+            ∙ rw at (cond-false (ltb clock e) (5 ∷ []) [] (le-ltb clock e allowed)));
         in-time =
-          at-set (λ j r. j < length table → clock ≤ window-end clock (duty-at table j) r) rows k row there
-          (λ _. rw at (omega arith)) (λ j other. doomed .in-time j);
+            at-set (λ j r. j < length table → clock ≤ window-end clock (duty-at table j) r) rows k row there
+            (λ _. rw at (omega arith)) (λ j other. doomed .in-time j);
         ends =
-          at-set (λ j r. window-end clock (duty-at table j) r ≡ window-end clock (duty-at table j) (row-at rows j)) rows k row there
-          (rw at (omega arith)) (λ j other. refl) i
-          ∙ doomed .ends;
+            at-set (λ j r. window-end clock (duty-at table j) r ≡ window-end clock (duty-at table j) (row-at rows j)) rows k row there
+            (rw at (omega arith)) (λ j other. refl) i
+            ∙ doomed .ends;
         short = λ x from to.
-          let more =
+            let more =
             sum-le (need-at clock table rows x) (need-at clock table (set rows k row) x) (suc i)
             (λ j h. at-set (λ j r. need clock (duty-at table j) (row-at rows j) x ≤ need clock (duty-at table j) r x) rows k row there
             (rw at (release-needs clock (duty-at table k) e x allowed from (omega (arith, limits)))) (λ j other. omega arith) j) in
-          omega (arith, doomed .short x from to, doomed-demand clock clock x rows (doomed .numbers), doomed-demand clock clock x (set rows k row) later);
+            omega (arith, doomed .short x from to, doomed-demand clock clock x rows (doomed .numbers), doomed-demand clock clock x (set rows k row) later);
       }
 
   -- Row k is released if it may be, and no other row changes.
@@ -148,11 +171,12 @@ module _ (table : List Duty) (ok : admitted table ≡ true) (i end : ℕ) (insid
       go (Idle e) at =
           ⊎-elim
           (λ ahead. (rows, doomed, rw at ahead, λ j other. refl))
-          (λ allowed.
-          (rows-after table clock rows k Release,
-          doomed-release clock rows k e doomed within at allowed,
-          rw (getD-set-same rows k (row-after (duty-at table k) clock (row-at rows k) Release) no-row (omega (arith, doomed .numbers .same-length))) (rw at tt),
-          λ j other. getD-set-other rows k j (row-after (duty-at table k) clock (row-at rows k) Release) no-row other))
+          (λ allowed. (
+            rows-after table clock rows k Release,
+            doomed-release clock rows k e doomed within at allowed,
+            rw (getD-set-same rows k (row-after (duty-at table k) clock (row-at rows k) Release) no-row (omega (arith, doomed .numbers .same-length))) (rw at tt),
+            λ j other. getD-set-other rows k j (row-after (duty-at table k) clock (row-at rows k) Release) no-row other,
+          ))
           (cases-lt clock e)
       go (Ready c d e) at = (rows, doomed, rw at tt, λ j other. refl)
 
@@ -163,9 +187,140 @@ module _ (table : List Duty) (ok : admitted table ≡ true) (i end : ℕ) (insid
   hasten-all clock rows zero few doomed = (rows, doomed, λ j h. absurd (omega arith))
   hasten-all clock rows (suc m) few doomed =
       let (before, so-far, prompt) = hasten-all clock rows m (omega arith) doomed in
-      let (after, now, new, others) = hasten clock before m so-far (omega arith) in
-      (after, now,
-      λ j h. ⊎-elim
-      (λ same. rw same new)
-      (λ other. rw (others j other) (prompt j (omega arith)))
-      (cases-eq j m))
+      let (after, now, new, others) = hasten clock before m so-far (omega arith) in (
+        after,
+        now,
+        λ j h. ⊎-elim
+            (λ same. rw same new)
+            (λ other. rw (others j other) (prompt j (omega arith)))
+            (cases-eq j m),
+      )
+
+  -- A tick at which no row has a job.
+  doomed-idle :
+      (clock : ℕ) (rows : List Row)
+      → Doomed clock rows
+      → ((j : ℕ) → j < length table → Prompt clock (row-at rows j))
+      → Safe table (clock + 1) rows
+      → Doomed (clock + 1) rows
+  doomed-idle clock rows doomed prompt safe =
+      record {
+        numbers = numbers-later clock table rows (doomed .numbers);
+        safe = safe;
+        in-time = λ k within. omega (arith, doomed-open clock rows doomed k within, window-later clock (duty-at table k) (row-at rows k));
+        ends = prompt-window clock (duty-at table i) (row-at rows i) (prompt i inside) ∙ doomed .ends;
+        short = λ x from to.
+            let same =
+            sum-le (need-at clock table rows x) (need-at (clock + 1) table rows x) (suc i)
+            (λ j h. omega (arith, prompt-need clock (duty-at table j) (row-at rows j) x (prompt j (omega arith)))) in
+            omega (arith, doomed .short x (omega arith) to, doomed-demand clock clock x rows (doomed .numbers), doomed-demand (clock + 1) clock x rows (doomed .numbers));
+      }
+
+  -- A tick that row k has.
+  doomed-run :
+      (clock : ℕ) (rows : List Row) (k : ℕ)
+      → Doomed clock rows
+      → ((j : ℕ) → j < length table → Prompt clock (row-at rows j))
+      → Is-least (ready-at rows) 0 (length rows) k
+      → clock < end
+      → Safe table (clock + 1) (rows-after table clock rows k Run)
+      → Doomed (clock + 1) (rows-after table clock rows k Run)
+  doomed-run clock rows k doomed prompt first before safe =
+      let there : k < length rows = omega (arith, first .below) in
+      let within : k < length table = omega (arith, doomed .numbers .same-length) in
+      let row = row-after (duty-at table k) clock (row-at rows k) Run in
+      let limits = admitted-limits table ok k within in
+      let eased =
+      row-call-eases clock (duty-at table k) (row-at rows k) Run limits (doomed .numbers .each k within)
+      (doomed-open clock rows doomed k within) (run-accepted clock (row-at rows k)) in
+      let later : Numbers (clock + 1) table (set rows k row) =
+      record {
+        same-length = omega (arith, length-set rows k row, doomed .numbers .same-length);
+        each =
+            at-set (λ j r. j < length table → Row-numbers (clock + 1) (duty-at table j) r) rows k row there
+            (λ _. row-numbers-later clock (duty-at table k) row (eased .numbers))
+            (λ j other h. row-numbers-later clock (duty-at table j) (row-at rows j) (doomed .numbers .each j h));
+      } in
+      let short : (x : ℕ) → clock + 1 ≤ x → x ≤ end → x < demand-at (clock + 1) table (set rows k row) i x + (clock + 1) = λ x from to.
+      let more =
+      sum-one-more (need-at clock table rows x) (need-at (clock + 1) table (set rows k row) x) k (suc i)
+      (λ j h other. rw (getD-set-other rows k j row no-row other)
+      (omega (arith, prompt-need clock (duty-at table j) (row-at rows j) x (prompt j (omega arith)))))
+      (rw (getD-set-same rows k row no-row there)
+      (work-needs clock (duty-at table k) (row-at rows k) x limits (doomed .numbers .each k within) (first .passed) (doomed-open clock rows doomed k within))) in
+      omega (arith, doomed .short x (omega arith) to, doomed-demand clock clock x rows (doomed .numbers), doomed-demand (clock + 1) (clock + 1) x (set rows k row) later) in
+      record {
+        numbers = later;
+        safe = safe;
+        in-time =
+            at-set (λ j r. j < length table → clock + 1 ≤ window-end (clock + 1) (duty-at table j) r) rows k row there
+            (λ _. omega (arith, doomed-open clock rows doomed k within, eased .ends, window-later clock (duty-at table k) row))
+            (λ j other h. omega (arith, doomed-open clock rows doomed j h, window-later clock (duty-at table j) (row-at rows j)));
+        ends =
+            at-set (λ j r. j ≡ i → window-end (clock + 1) (duty-at table j) r ≡ window-end clock (duty-at table j) (row-at rows j)) rows k row there
+            (λ same. ⊎-elim
+            (λ ready. work-window clock (duty-at table k) (row-at rows k) ready)
+            (λ done.
+            let none =
+            sum-none (need-at (clock + 1) table (set rows k row) (clock + 1)) (suc i)
+            (λ j h. idle-needs-none (clock + 1) (duty-at table j) (row-at (set rows k row) j)
+            (at-set (λ j r. j < suc i → is-ready r ≡ false) rows k row there
+            (λ _. done)
+            (λ j other h. first .first j (omega arith) (omega arith)) j h)) in
+            absurd (omega (arith, short (clock + 1) (omega arith) (omega arith), doomed-demand (clock + 1) (clock + 1) (clock + 1) (set rows k row) later)))
+            (cases-bool (is-ready row)))
+            (λ j other same. prompt-window clock (duty-at table j) (row-at rows j) (prompt j (omega arith)))
+            i refl
+            ∙ doomed .ends;
+        short = short;
+      }
+
+  doomed-tick :
+      (clock : ℕ) (rows : List Row)
+      → Doomed clock rows
+      → ((j : ℕ) → j < length table → Prompt clock (row-at rows j))
+      → clock < end
+      → Doomed (clock + 1) (duty-tick table clock rows)
+  doomed-tick clock rows doomed prompt before =
+      let safe = safe-tick table clock rows (doomed .safe) in
+      ⊎-elim
+      (λ (none, idle). rw (none, duty-tick) (doomed-idle clock rows doomed prompt (rw (none, duty-tick) at safe)))
+      (λ (k, found, first). rw (found, duty-tick) (doomed-run clock rows k doomed prompt first before (rw (found, duty-tick) at safe)))
+      (turn-cases rows)
+
+  -- No rows are doomed: with the end n ticks away, the future above would miss.
+  none-doomed : (n clock : ℕ) (rows : List Row) → end ≡ clock + n → Doomed clock rows → ⊥
+  none-doomed zero clock rows away doomed = omega (arith, doomed-open clock rows doomed i inside, doomed .ends)
+  none-doomed (suc n) clock rows away doomed =
+      let (after, now, prompt) = hasten-all clock rows (length table) (omega arith) doomed in
+      none-doomed n (clock + 1) (duty-tick table clock after) (omega arith) (doomed-tick clock after now prompt (omega arith))
+
+-- Where a tick can be spared, the table's slack is at least 1.
+pub safe-slack :
+    (table : List Duty) → admitted table ≡ true
+    → (clock : ℕ) (rows : List Row)
+    → kept clock table rows ≡ true
+    → Safe table (clock + 1) rows
+    → 1 ≤ table-slack (clock + 1) clock table rows
+safe-slack table ok clock rows keeps safe =
+    ⊎-elim
+    (λ none.
+    let keeping = kept-gives clock table rows keeps in
+    let (i, inside, slackless) = slackless-row (clock + 1) clock table rows none in
+    let end = window-end (clock + 1) (duty-at table i) (row-at rows i) in
+    let in-time : (k : ℕ) → k < length table → clock + 1 ≤ window-end (clock + 1) (duty-at table k) (row-at rows k) =
+    λ k within. omega (arith, window-open table ok clock rows keeping k within, window-later clock (duty-at table k) (row-at rows k)) in
+    absurd (none-doomed table ok i end inside (end - (clock + 1)) (clock + 1) rows (omega (arith, in-time i inside))
+    (record {
+      numbers = numbers-later clock table rows (keeping .numbers);
+      safe = safe;
+      in-time = in-time;
+      ends = refl;
+      short = λ x from to.
+          let at : clock + (x - clock) ≡ x = omega arith in
+          let most : (x - clock) - demand-at (clock + 1) table rows i x ≤ row-slack (clock + 1) clock table rows i =
+          rw at at (greatest-above (spare (clock + 1) clock table rows i) (window (clock + 1) clock table rows i) (x - clock) (omega arith)) in
+          omega arith;
+    })))
+    (λ some. some)
+    (cases-lt (table-slack (clock + 1) clock table rows) 1)
