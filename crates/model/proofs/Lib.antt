@@ -9,5 +9,6 @@ pub mod Futures
 pub mod Keeping
 pub mod Missing
 pub mod Searches
+pub mod Stepping
 pub mod Sums
 pub mod Ticks
