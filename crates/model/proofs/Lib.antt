@@ -2,6 +2,7 @@ pub mod Accepting
 pub mod Admitted
 pub mod Ceil
 pub mod Covering
+pub mod Deadlines
 pub mod Demand
 pub mod Extremes
 pub mod Found
