@@ -175,3 +175,30 @@ module _ (table : List Duty) (ok : admitted table ≡ true) (i c d e : ℕ) wher
   followed s Tick answer s′ (Ok told, answered, (room, slack-is, clock-rises, turn)) keeps at =
       rw answered (followed-turn (errand-due table s) s (told .0) (told .1) s′ turn at)
   followed s Tick answer s′ (Err why, answered, (ended, refused, same)) keeps at = left-alone i c d e Tick answer s′ refl (rw same at)
+
+module _ (table : List Duty) (ok : admitted table ≡ true) where
+  -- A job with c units left whose deadline the clock reaches within a run has its c ticks in it, or is called done,
+  -- before its row is released again.
+  pub job-finishes :
+      (s : State) (trace : Trace) (end : State) (i c d e : ℕ)
+      → Run table s trace end
+      → kept (s .clock) table (s .rows) ≡ true
+      → row-at (s .rows) i ≡ Ready c d e
+      → d ≤ s .clock + ticks trace
+      → (c ≤ row-ticks i (until-release i trace)) ⊎ (1 ≤ dones i (until-release i trace))
+  job-finishes s trace end i c d e stay keeps at reached =
+      absurd (omega (arith, kept-before-due table ok (s .clock) (s .rows) keeps i c d e (ready-inside (s .rows) i c d e at) at))
+  job-finishes s trace end i c d e (step {s′ = s′} {call = call} {answer = answer} {rest = rest} one more) keeps at reached =
+      let following = followed table ok i c d e s call answer s′ one keeps at in
+      rw (following .not-released, until-release)
+      (⊎-elim
+      (λ had. inl (omega arith))
+      (⊎-elim
+      (λ done. inr (omega arith))
+      (λ (c′, at′, fewer).
+      ⊎-elim
+      (λ had. inl (omega arith))
+      (λ done. inr (omega arith))
+      (job-finishes s′ rest end i c′ d e more (step-kept table ok s call answer s′ one keeps) at′
+      (omega (arith, step-clock table s call answer s′ one)))))
+      (following .goes-on))
