@@ -36,7 +36,7 @@ use Rattle.model.proofs.Covering.{fresh-kept}
 use Rattle.model.proofs.Futures.{kept-before-due}
 use Rattle.model.proofs.Keeping.{kept-gives}
 use Rattle.model.proofs.Searches.{Is-least}
-use Rattle.model.proofs.Stepping.{step-kept, run-kept}
+use Rattle.model.proofs.Stepping.{step-kept, run-kept, run-split, run-first}
 use Rattle.model.proofs.Ticks.{turn-cases}
 
 -- The clock of a state is that of the state before, raised by the ticks that were accepted.
@@ -54,6 +54,11 @@ step-clock table s (Withdraw n) answer s′ (Err why, answered, (taken, (clock-s
 step-clock table s Slack answer s′ (answered, same) = rw (same, answered) (omega arith)
 step-clock table s Tick answer s′ (Ok told, answered, (room, slack-is, clock-rises, turn)) = rw answered (omega arith)
 step-clock table s Tick answer s′ (Err why, answered, (ended, refused, same)) = rw (same, answered) (omega arith)
+
+-- Whatever a row was, a release gives it the new job.
+pub release-after : (duty : Duty) (clock : ℕ) (row : Row) → row-after duty clock row Row-release ≡ released duty clock
+release-after duty clock (Idle e) = refl
+release-after duty clock (Ready c d e) = refl
 
 -- A row that has a job is there.
 pub ready-inside : (rows : List Row) (i c d e : ℕ) → row-at rows i ≡ Ready c d e → i < length rows
@@ -202,3 +207,26 @@ module _ (table : List Duty) (ok : admitted table ≡ true) where
       (job-finishes s′ rest end i c′ d e more (step-kept table ok s call answer s′ one keeps) at′
       (omega (arith, step-clock table s call answer s′ one)))))
       (following .goes-on))
+
+  -- After an accepted release of row i the row has the job.
+  released-now :
+      (s s′ : State) (i : ℕ)
+      → Step table s (Release i) Accepted s′
+      → (s′ .clock ≡ s .clock) × (row-at (s′ .rows) i ≡ released (duty-at table i) (s .clock))
+  released-now s s′ i (Ok x, answered, (accepted, rows-are, clock-stays, queue-stays)) =
+      (clock-stays,
+      rw rows-are
+      (getD-set-same (s .rows) i (row-after (duty-at table i) (s .clock) (row-at (s .rows) i) Row-release) no-row
+      (call-accepted (s .clock) (s .rows) i Row-release accepted .0)
+      ∙ release-after (duty-at table i) (s .clock) (row-at (s .rows) i)))
+  released-now s s′ i (Err why, answered, (refused, same)) = absurd (let z : _≡_ {A = ℕ} 0 1 = cc in omega arith)
+
+  pub deadlines-kept : (m : Meaning) (trace : Trace) (end : State) → Run table (fresh table m) trace end → Deadlines table trace
+  deadlines-kept m trace end run before during after i is reached =
+      let (s, first, rest) = run-split table (fresh table m) before ((Release i, Accepted) ∷ (during ++ after)) end (rw is at run) in
+      let (s′, release, following) = run-first table s (Release i) Accepted (during ++ after) end rest in
+      let (mid, job, last) = run-split table s′ during after end following in
+      let (clock-stays, at) = released-now s s′ i release in
+      let keeps = run-kept table ok (fresh table m) before s first (fresh-kept table ok) in
+      job-finishes s′ during mid i (duty-at table i .cost) (s .clock + duty-at table i .deadline) (s .clock + duty-at table i .separation) job
+      (step-kept table ok s (Release i) Accepted s′ release keeps) at (omega arith)

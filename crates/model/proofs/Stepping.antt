@@ -57,3 +57,18 @@ module _ (table : List Duty) (ok : admitted table ≡ true) where
   run-kept s trace end stay keeps = keeps
   run-kept s trace end (step {s′ = s′} {call = call} {answer = answer} {rest = rest} one more) keeps =
       run-kept s′ rest end more (step-kept s call answer s′ one keeps)
+
+-- A run over two lists of calls, one after the other, is a run over each.
+pub run-split :
+    (table : List Duty) (s : State) (before after : Trace) (end : State)
+    → Run table s (before ++ after) end → (mid : State) × Run table s before mid × Run table mid after end
+run-split table s [] after end run = (s, stay, run)
+run-split table s ((call, answer) ∷ before) after end (step {s′ = s′} one more) =
+    let (mid, first, last) = run-split table s′ before after end more in
+    (mid, step one first, last)
+
+-- A run over a call and more begins with its step.
+pub run-first :
+    (table : List Duty) (s : State) (call : Call) (answer : Answer) (rest : Trace) (end : State)
+    → Run table s ((call, answer) ∷ rest) end → (s′ : State) × Step table s call answer s′ × Run table s′ rest end
+run-first table s call answer rest end (step {s′ = s′} one more) = (s′, one, more)
