@@ -1,4 +1,5 @@
 pub mod Accepting
+pub mod Accounts
 pub mod Admitted
 pub mod Ceil
 pub mod Covering
@@ -10,6 +11,7 @@ pub mod Futures
 pub mod Keeping
 pub mod Missing
 pub mod Searches
+pub mod Sparing
 pub mod Stepping
 pub mod Sums
 pub mod Ticks
