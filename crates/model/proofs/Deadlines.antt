@@ -120,16 +120,16 @@ module _ (table : List Duty) (ok : admitted table ≡ true) (i c d e : ℕ) wher
   followed-work s slack who s′ who-had rows-are at =
       let had : row-had i who ≡ 1 = rw who-had (cond-true (eqb i i) 1 0 (eq-eqb i i refl)) in
       let now : row-at (s′ .rows) i ≡ row-after (duty-at table i) (s .clock) (Ready c d e) Row-run =
-        rw rows-are
-        (getD-set-same (s .rows) i (row-after (duty-at table i) (s .clock) (row-at (s .rows) i) Row-run) no-row (ready-inside (s .rows) i c d e at)
-        ∙ ap (λ row. row-after (duty-at table i) (s .clock) row Row-run) at) in
+      rw rows-are
+      (getD-set-same (s .rows) i (row-after (duty-at table i) (s .clock) (row-at (s .rows) i) Row-run) no-row (ready-inside (s .rows) i c d e at)
+      ∙ ap (λ row. row-after (duty-at table i) (s .clock) row Row-run) at) in
       record {
         not-released = refl;
         goes-on =
-          ⊎-elim
-          (λ last. inl (omega (arith, leb-true c 1 last)))
-          (λ more. inr (inr (pred c, now ∙ cond-false (leb c 1) (Idle e) (Ready (pred c) d e) more, omega arith)))
-          (cases-bool (leb c 1));
+            ⊎-elim
+            (λ last. inl (omega (arith, leb-true c 1 last)))
+            (λ more. inr (inr (pred c, now ∙ cond-false (leb c 1) (Idle e) (Ready (pred c) d e) more, omega arith)))
+            (cases-bool (leb c 1));
       }
 
   followed-turn :
@@ -213,12 +213,13 @@ module _ (table : List Duty) (ok : admitted table ≡ true) where
       (s s′ : State) (i : ℕ)
       → Step table s (Release i) Accepted s′
       → (s′ .clock ≡ s .clock) × (row-at (s′ .rows) i ≡ released (duty-at table i) (s .clock))
-  released-now s s′ i (Ok x, answered, (accepted, rows-are, clock-stays, queue-stays)) =
-      (clock-stays,
-      rw rows-are
-      (getD-set-same (s .rows) i (row-after (duty-at table i) (s .clock) (row-at (s .rows) i) Row-release) no-row
-      (call-accepted (s .clock) (s .rows) i Row-release accepted .0)
-      ∙ release-after (duty-at table i) (s .clock) (row-at (s .rows) i)))
+  released-now s s′ i (Ok x, answered, (accepted, rows-are, clock-stays, queue-stays)) = (
+    clock-stays,
+    rw rows-are
+        (getD-set-same (s .rows) i (row-after (duty-at table i) (s .clock) (row-at (s .rows) i) Row-release) no-row
+        (call-accepted (s .clock) (s .rows) i Row-release accepted .0)
+        ∙ release-after (duty-at table i) (s .clock) (row-at (s .rows) i)),
+  )
   released-now s s′ i (Err why, answered, (refused, same)) = absurd (let z : _≡_ {A = ℕ} 0 1 = cc in omega arith)
 
   pub deadlines-kept : (m : Meaning) (trace : Trace) (end : State) → Run table (fresh table m) trace end → Deadlines table trace

@@ -10,6 +10,7 @@ pub mod Found
 pub mod Futures
 pub mod Keeping
 pub mod Missing
+pub mod Promise
 pub mod Searches
 pub mod Sparing
 pub mod Stepping

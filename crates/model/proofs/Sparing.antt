@@ -48,19 +48,21 @@ module _ (table : List Duty) (ok : admitted table ≡ true) where
       → kept (s .clock) table (s .rows) ≡ true
       → waits (s .queue) ≡ true
       → Spares s who
-  turn-spares true s who s′ due (n, had, spent, rows-stay) keeps waiting =
-      (λ _. slack-safe table ok (s .clock) (s .rows) keeps
-      (leb-true 1 (slack-of table s) (and-parts (waits (s .queue)) (leb 1 (slack-of table s)) due .1)),
-      λ _. ap is-errand had)
+  turn-spares true s who s′ due (n, had, spent, rows-stay) keeps waiting = (
+    λ _. slack-safe table ok (s .clock) (s .rows) keeps
+        (leb-true 1 (slack-of table s) (and-parts (waits (s .queue)) (leb 1 (slack-of table s)) due .1)),
+    λ _. ap is-errand had,
+  )
   turn-spares false s who s′ due (had, rows-are, queue-stays) keeps waiting =
       let duty : is-errand who ≡ false = ap is-errand had ∙ no-errand (s .rows) in
       let none : slack-of table s < 1 =
-        ⊎-elim
-        (λ idle. absurd (both-ways (waits (s .queue)) idle waiting))
-        (λ tight. leb-false 1 (slack-of table s) tight)
-        (and-cases (waits (s .queue)) (leb 1 (slack-of table s)) due) in
-      (λ errand. absurd (both-ways (is-errand who) duty errand),
-      λ safe. absurd (omega (arith, safe-slack table ok (s .clock) (s .rows) keeps safe)))
+      ⊎-elim
+      (λ idle. absurd (both-ways (waits (s .queue)) idle waiting))
+      (λ tight. leb-false 1 (slack-of table s) tight)
+      (and-cases (waits (s .queue)) (leb 1 (slack-of table s)) due) in (
+        λ errand. absurd (both-ways (is-errand who) duty errand),
+        λ safe. absurd (omega (arith, safe-slack table ok (s .clock) (s .rows) keeps safe)),
+      )
 
   tick-spares :
       (s : State) (slack : ℕ) (who : Who) (s′ : State)
