@@ -10,7 +10,7 @@ use lib.Dec.{leb, eqb}
 use lib.ListN.{length, set}
 use Rattle.std.specs.declared.option.Option.the-variants.{Some, None}
 use Rattle.std.specs.declared.result.Result.the-variants.{Ok, Err}
-use Rattle.std.proofs.shelf.Lists.{getD-set-same, getD-set-other, getD-past}
+use Rattle.std.proofs.shelf.Lists.{getD-set-same, getD-set-other}
 use Rattle.std.proofs.shelf.Tests.{cases-bool, cases-lt, cases-eq, both-ways, and-left, and-right, eqb-true, eqb-false, eq-eqb, ne-eqb, leb-true, cond-true, cond-false}
 use Rattle.model.specs.Kept.{kept}
 use Rattle.model.specs.Machine.{State, Step, Turn, released, row-after, rows-after, call-refusal, errand-due, duty-turn, duty-tick, first-ready, fresh}
@@ -33,7 +33,7 @@ use Rattle.model.specs.declared.rows.RowCall.the-variants.{Release as Row-rele
 use Rattle.model.proofs.Accepting.{call-accepted, release-allowed}
 use Rattle.model.proofs.Admitted.{admitted-limits}
 use Rattle.model.proofs.Covering.{fresh-kept}
-use Rattle.model.proofs.Futures.{kept-before-due}
+use Rattle.model.proofs.Futures.{ready-inside, kept-before-due}
 use Rattle.model.proofs.Keeping.{kept-gives}
 use Rattle.model.proofs.Searches.{Is-least}
 use Rattle.model.proofs.Stepping.{step-kept, run-kept, run-split, run-first}
@@ -59,14 +59,6 @@ step-clock table s Tick answer s′ (Err why, answered, (ended, refused, same)) 
 pub release-after : (duty : Duty) (clock : ℕ) (row : Row) → row-after duty clock row Row-release ≡ released duty clock
 release-after duty clock (Idle e) = refl
 release-after duty clock (Ready c d e) = refl
-
--- A row that has a job is there.
-pub ready-inside : (rows : List Row) (i c d e : ℕ) → row-at rows i ≡ Ready c d e → i < length rows
-ready-inside rows i c d e at =
-    ⊎-elim
-    (λ there. there)
-    (λ past. absurd (let none = getD-past rows i no-row past in let z : _≡_ {A = ℕ} 0 1 = cc in omega arith))
-    (cases-lt i (length rows))
 
 -- What a call with its answer makes of row i's job with c units left, deadline d and next release e: it had all its
 -- ticks, or was called done, or the row still has it with no fewer units left than those not had.
@@ -100,7 +92,7 @@ module _ (table : List Duty) (ok : admitted table ≡ true) (i c d e : ℕ) wher
       let keeping = kept-gives (s .clock) table (s .rows) keeps in
       let within : i < length table = omega (arith, keeping .numbers .same-length) in
       let early = release-allowed (s .clock) e (rw (same, at) at willing) in
-      let before = kept-before-due table ok (s .clock) (s .rows) keeps i c d e (omega arith) at in
+      let before = kept-before-due table ok (s .clock) (s .rows) keeps i c d e at in
       let numbers = rw at at (keeping .numbers .each i within) in
       omega (arith, admitted-limits table ok i within, numbers)
 
@@ -192,7 +184,7 @@ module _ (table : List Duty) (ok : admitted table ≡ true) where
       → d ≤ s .clock + ticks trace
       → (c ≤ row-ticks i (until-release i trace)) ⊎ (1 ≤ dones i (until-release i trace))
   job-finishes s trace end i c d e stay keeps at reached =
-      absurd (omega (arith, kept-before-due table ok (s .clock) (s .rows) keeps i c d e (ready-inside (s .rows) i c d e at) at))
+      absurd (omega (arith, kept-before-due table ok (s .clock) (s .rows) keeps i c d e at))
   job-finishes s trace end i c d e (step {s′ = s′} {call = call} {answer = answer} {rest = rest} one more) keeps at reached =
       let following = followed table ok i c d e s call answer s′ one keeps at in
       rw (following .not-released, until-release)

@@ -1,6 +1,7 @@
 pub mod Accepting
 pub mod Accounts
 pub mod Admitted
+pub mod Always
 pub mod Ceil
 pub mod Covering
 pub mod Deadlines

@@ -114,7 +114,7 @@ module _ (table : List Duty) (ok : admitted table ≡ true) (i end : ℕ) (insid
   doomed-open : (clock : ℕ) (rows : List Row) → Doomed clock rows → (k : ℕ) → k < length table → clock < window-end clock (duty-at table k) (row-at rows k)
   doomed-open clock rows doomed k within =
       still-open clock (duty-at table k) (row-at rows k) (admitted-limits table ok k within)
-      (λ c e at. doomed .safe [] tt (row-overdue clock rows k c e (omega (arith, doomed .numbers .same-length)) at))
+      (λ c e at. doomed .safe [] tt (row-overdue clock rows k c e at))
       (doomed .in-time k within)
 
   doomed-demand : (from clock x : ℕ) (rows : List Row) → Numbers clock table rows → demand-at from table rows i x ≡ sum-to (need-at from table rows x) (suc i)

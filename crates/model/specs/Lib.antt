@@ -1,3 +1,4 @@
+pub mod Always
 pub mod Futures
 pub mod Kept
 pub mod Machine
