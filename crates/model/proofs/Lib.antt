@@ -10,6 +10,7 @@ pub mod Extremes
 pub mod Found
 pub mod Futures
 pub mod Keeping
+pub mod MachineExamples
 pub mod Missing
 pub mod Promise
 pub mod Searches

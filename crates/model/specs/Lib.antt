@@ -2,6 +2,7 @@ pub mod Always
 pub mod Futures
 pub mod Kept
 pub mod Machine
+pub mod MachineExamples
 pub mod Promise
 pub mod Queues
 pub mod Reckoning
