@@ -7,11 +7,12 @@ use mathlib.Core.Logic.{⊎-elim}
 use native.Mathlib.Omega.{arith}
 use lib.Dec.{eqb}
 use lib.ListN.{length}
-use Rattle.std.proofs.shelf.Tests.{cases-bool, both-ways, or-cases, or-left, or-right, eqb-true, eq-eqb}
+use Rattle.std.proofs.shelf.Lists.{getD-past}
+use Rattle.std.proofs.shelf.Tests.{cases-bool, cases-lt, both-ways, or-cases, or-left, or-right, eqb-true, eq-eqb}
 use Rattle.model.specs.Futures.{Move, release, finish, tick, Lawful, overdue, misses, Safe}
-use Rattle.model.specs.Kept.{kept}
+use Rattle.model.specs.Kept.{kept, Slack-not-below-0}
 use Rattle.model.specs.Machine.{rows-after, duty-tick}
-use Rattle.model.specs.Reckoning.{demand-at, window, window-end, table-slack, row-at}
+use Rattle.model.specs.Reckoning.{table-slack, row-at, no-row}
 use Rattle.model.specs.Table.{admitted, duty-at}
 use Rattle.model.specs.declared.duties.Duty.{Duty}
 use Rattle.model.specs.declared.rows.Row.{Row}
@@ -23,37 +24,40 @@ use Rattle.model.proofs.Keeping.{Keeping, kept-gives}
 use Rattle.model.proofs.Sums.{sum-le, need-at, demand-is-sum}
 use Rattle.model.proofs.Ticks.{window-later, duty-tick-keeps, spare-tick-keeps}
 
--- The clock is overdue only where it is the deadline of some ready row,
-pub overdue-row :
-    (clock : ℕ) (rows : List Row) → overdue clock rows ≡ true → (i c e : ℕ) × (i < length rows) × (row-at rows i ≡ Ready c clock e)
+-- A row that has a job is there.
+pub ready-inside : (rows : List Row) (i c d e : ℕ) → row-at rows i ≡ Ready c d e → i < length rows
+ready-inside rows i c d e at =
+    ⊎-elim
+    (λ there. there)
+    (λ past. absurd (let none = getD-past rows i no-row past in let z : _≡_ {A = ℕ} 0 1 = cc in omega arith))
+    (cases-lt i (length rows))
+
+-- The clock is overdue only where it is the deadline of some job,
+pub overdue-row : (clock : ℕ) (rows : List Row) → overdue clock rows ≡ true → (i c e : ℕ) × (row-at rows i ≡ Ready c clock e)
 overdue-row clock [] late = absurd (both-ways false refl late)
-overdue-row clock (Idle e ∷ rows) late =
-    let (i, c, e′, short, at) = overdue-row clock rows late in
-    (suc i, c, e′, omega arith, at)
+overdue-row clock (Idle e ∷ rows) late = let (i, c, e′, at) = overdue-row clock rows late in (suc i, c, e′, at)
 overdue-row clock (Ready c d e ∷ rows) late =
     ⊎-elim
-    (λ here. (0, c, e, omega arith, ap (λ x. Ready c x e) (sym (eqb-true clock d here))))
-    (λ below. let (i, c′, e′, short, at) = overdue-row clock rows below in (suc i, c′, e′, omega arith, at))
+    (λ here. (0, c, e, ap (λ x. Ready c x e) (sym (eqb-true clock d here))))
+    (λ below. let (i, c′, e′, at) = overdue-row clock rows below in (suc i, c′, e′, at))
     (or-cases (eqb clock d) (overdue clock rows) late)
 
 -- and wherever it is.
-pub row-overdue :
-    (clock : ℕ) (rows : List Row) (i c e : ℕ) → i < length rows → row-at rows i ≡ Ready c clock e → overdue clock rows ≡ true
-row-overdue clock [] i c e short at = absurd (omega arith)
-row-overdue clock (Idle e ∷ rows) zero c e′ short at = absurd (let z : _≡_ {A = ℕ} 0 1 = cc in omega arith)
-row-overdue clock (Idle e ∷ rows) (suc i) c e′ short at = row-overdue clock rows i c e′ (omega arith) at
-row-overdue clock (Ready c d e ∷ rows) zero c′ e′ short at =
-    or-left (eqb clock d) (overdue clock rows) (eq-eqb clock d (cc))
-row-overdue clock (Ready c d e ∷ rows) (suc i) c′ e′ short at =
-    or-right (eqb clock d) (overdue clock rows) (row-overdue clock rows i c′ e′ (omega arith) at)
+pub row-overdue : (clock : ℕ) (rows : List Row) (i c e : ℕ) → row-at rows i ≡ Ready c clock e → overdue clock rows ≡ true
+row-overdue clock [] i c e at = absurd (let z : _≡_ {A = ℕ} 0 1 = cc in omega arith)
+row-overdue clock (Idle e ∷ rows) zero c e′ at = absurd (let z : _≡_ {A = ℕ} 0 1 = cc in omega arith)
+row-overdue clock (Idle e ∷ rows) (suc i) c e′ at = row-overdue clock rows i c e′ at
+row-overdue clock (Ready c d e ∷ rows) zero c′ e′ at = or-left (eqb clock d) (overdue clock rows) (eq-eqb clock d (cc))
+row-overdue clock (Ready c d e ∷ rows) (suc i) c′ e′ at = or-right (eqb clock d) (overdue clock rows) (row-overdue clock rows i c′ e′ at)
 
 module _ (table : List Duty) (ok : admitted table ≡ true) where
   -- The clock has not reached the deadline of any job,
   pub kept-before-due :
       (clock : ℕ) (rows : List Row) → kept clock table rows ≡ true
-      → (i c d e : ℕ) → i < length rows → row-at rows i ≡ Ready c d e → clock < d
-  kept-before-due clock rows keeps i c d e short at =
+      → (i c d e : ℕ) → row-at rows i ≡ Ready c d e → clock < d
+  kept-before-due clock rows keeps i c d e at =
       let keeping = kept-gives clock table rows keeps in
+      let there = ready-inside rows i c d e at in
       let ahead = window-open table ok clock rows keeping i (omega (arith, keeping .numbers .same-length)) in
       rw at at ahead
 
@@ -61,8 +65,8 @@ module _ (table : List Duty) (ok : admitted table ≡ true) where
   pub kept-not-overdue : (clock : ℕ) (rows : List Row) → kept clock table rows ≡ true → overdue clock rows ≡ false
   kept-not-overdue clock rows keeps =
       ⊎-elim
-      (λ late. let (i, c, e, short, at) = overdue-row clock rows late in
-      absurd (omega (arith, kept-before-due clock rows keeps i c clock e short at)))
+      (λ late. let (i, c, e, at) = overdue-row clock rows late in
+      absurd (omega (arith, kept-before-due clock rows keeps i c clock e at)))
       (λ none. none)
       (cases-bool (overdue clock rows))
 
@@ -70,7 +74,7 @@ module _ (table : List Duty) (ok : admitted table ≡ true) where
   pub kept-slack :
       (clock : ℕ) (rows : List Row) → kept clock table rows ≡ true
       → (i : ℕ) → i < length table
-      → (w : ℕ) × (w ≤ window (clock + 1) clock table rows i) × (demand-at (clock + 1) table rows i (clock + w) ≤ w)
+      → Slack-not-below-0 clock table rows i
   kept-slack clock rows keeps i short =
       let keeping = kept-gives clock table rows keeps in
       let (x, ahead, (inside, met)) = keeping .cover i short in

@@ -1,5 +1,5 @@
 -- What a running machine always keeps: each row's slack by the early reckoning is not below 0.
-use Prim.Native.Nat.{ℕ, zero, suc, _+_}
+use Prim.Native.Nat.{ℕ, zero, suc, _+_, _≤_}
 use mathlib.Core.Bool.{Bool, true, false, _&&_}
 use mathlib.Core.List.{List, [], _∷_}
 use lib.ListN.{length}
@@ -41,3 +41,8 @@ all-covered clock table rows (suc n) = all-covered clock table rows n && covered
 -- What a running machine keeps.
 abbrev pub kept : ℕ → List Duty → List Row → Bool
 kept clock table rows = rows-kept clock table rows && all-covered clock table rows (length table)
+
+-- Row i's slack is not below 0: some number of ticks within its window covers its demand.
+abbrev pub Slack-not-below-0 : ℕ → List Duty → List Row → ℕ → Type 0
+Slack-not-below-0 clock table rows i =
+    (w : ℕ) × (w ≤ window (clock + 1) clock table rows i) × (demand-at (clock + 1) table rows i (clock + w) ≤ w)

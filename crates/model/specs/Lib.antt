@@ -1,7 +1,9 @@
+pub mod Always
 pub mod Futures
 pub mod Idle
 pub mod Kept
 pub mod Machine
+pub mod MachineExamples
 pub mod Promise
 pub mod Queues
 pub mod Reckoning

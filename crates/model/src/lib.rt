@@ -2,6 +2,7 @@
 mod calls;
 mod duties;
 mod errands;
+mod laws;
 mod refusals;
 mod rows;
 mod theorems;
@@ -11,6 +12,9 @@ pub use calls::Call;
 pub use calls::Who;
 pub use duties::Duty;
 pub use errands::Errand;
+pub use laws::every_run_keeps_the_promise;
+pub use laws::kept_always;
+pub use laws::machine_examples;
 pub use refusals::Refusal;
 pub use rows::Row;
 pub use rows::RowCall;
