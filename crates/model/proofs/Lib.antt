@@ -20,3 +20,4 @@ pub mod Sparing
 pub mod Stepping
 pub mod Sums
 pub mod Ticks
+pub mod Told

@@ -1,4 +1,5 @@
 pub mod Ahead
+pub mod Asked
 pub mod Idling
 pub mod Minimum
 pub mod Reckoned
