@@ -36,8 +36,7 @@ pub no-such-row : (clock : ℕ) (rows : List Row) (i : ℕ) (call : RowCall) →
 no-such-row clock rows i call le = cond-false _ _ _ (le-ltb _ _ le)
 
 module _ (clock : ℕ) (table : List Duty) (slots : List Row) (i : ℕ) (call : RowCall)
-  (ok : admitted table ≡ true) (keeps : kept clock table (take (length table) slots) ≡ true) (short : i < length table) where
-
+    (ok : admitted table ≡ true) (keeps : kept clock table (take (length table) slots) ≡ true) (short : i < length table) where
   abbrev rows : List Row
   rows = take (length table) slots
 
@@ -77,19 +76,20 @@ module _ (clock : ℕ) (table : List Duty) (slots : List Row) (i : ℕ) (call : 
 
 -- What the workload then answers and holds.
 pub row-asked : {X : Type 0} (w w′ : Workload) (i : ℕ) (call : RowCall) (r : Result X Refusal)
-  → i < length (table-in w)
-  → refusal r ≡ row-refusal (w .clock) (getD (w .rows) i no-row) call
-  → rows-in w′ ≡ take (length (table-in w)) (set (w .rows) i (acted (duty-at (table-in w) i) (w .clock) (getD (w .rows) i no-row) call))
-  → table-in w′ ≡ table-in w
-  → w′ .clock ≡ w .clock
-  → Row-asked w i call r w′
+    → i < length (table-in w)
+    → refusal r ≡ row-refusal (w .clock) (getD (w .rows) i no-row) call
+    → rows-in w′ ≡ take (length (table-in w)) (set (w .rows) i (acted (duty-at (table-in w) i) (w .clock) (getD (w .rows) i no-row) call))
+    → table-in w′ ≡ table-in w
+    → w′ .clock ≡ w .clock
+    → Row-asked w i call r w′
 row-asked w w′ i call (Ok x) short answers left table clock =
     let free = row-answers (w .clock) (table-in w) (w .rows) i call (w .setting .admits) (w .keeps) short ∙ sym answers in
     (free, left ∙ accepted-rows (w .clock) (table-in w) (w .rows) i call (w .setting .admits) (w .keeps) short free, table, clock)
 row-asked w w′ i call (Err why) short answers left table clock =
     let barred = row-answers (w .clock) (table-in w) (w .rows) i call (w .setting .admits) (w .keeps) short ∙ sym answers in
-    let (n, ns, some) = told-some why in
-    (barred,
+    let (n, ns, some) = told-some why in (
+      barred,
       left ∙ refused-rows (w .clock) (table-in w) (w .rows) i call (w .setting .admits) (w .keeps) short n ns (barred ∙ some),
       table,
-      clock)
+      clock,
+    )

@@ -3,4 +3,5 @@ pub mod Asked
 pub mod Idling
 pub mod Minimum
 pub mod Reckoned
+pub mod Running
 pub mod Tame

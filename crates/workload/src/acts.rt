@@ -39,7 +39,14 @@ pub fn act(row: &mut Row, call: RowCall, duty: Duty, clock: u32) -> Result<(), R
             Ok(())
         }
         (Row::Idle { .. }, RowCall::Run) => Ok(()),
-        (Row::Ready { left, due, earliest }, RowCall::Run) => {
+        (
+            Row::Ready {
+                left,
+                due,
+                earliest,
+            },
+            RowCall::Run,
+        ) => {
             *row = if left <= 1 {
                 Row::Idle { earliest }
             } else {

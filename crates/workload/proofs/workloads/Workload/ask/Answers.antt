@@ -25,27 +25,28 @@ returns-then-row-duties c =
 
 -- What the call leaves of the row, by the table's own duty.
 left : (w : Workload) (i : ℕ) (call : RowCall) (duties : List Duty) (row : Row)
-  → duties ≡ table-in w
-  → row ≡ acted (duty-at duties i) (w .clock) (getD (w .rows) i no-row) call
-  → row ≡ acted (duty-at (table-in w) i) (w .clock) (getD (w .rows) i no-row) call
+    → duties ≡ table-in w
+    → row ≡ acted (duty-at duties i) (w .clock) (getD (w .rows) i no-row) call
+    → row ≡ acted (duty-at (table-in w) i) (w .clock) (getD (w .rows) i no-row) call
 left w i call duties row same leaves =
     leaves ∙ ap (λ (table : List Duty). acted (duty-at table i) (w .clock) (getD (w .rows) i no-row) call) same
 
 pub ghost-self : need.ghost-self
 ghost-self c =
     let w = c .args .self .now in
-    let short : c .args .row < length (table-in w) = omega (arith, ap length (c .rows-duties .ensures)) in
-    (ap (λ (row : Row). kept (w .clock) (table-in w) (take (length (table-in w)) (set (w .rows) (c .args .row) row)))
-        (left w (c .args .row) (c .args .call) _ _ (c .rows-duties .ensures) (c .act .ensures .leaves))
-      ∙ asked-keeps (w .clock) (table-in w) (w .rows) (c .args .row) (c .args .call) (w .setting .admits) (w .keeps) short,
-      tt)
+    let short : c .args .row < length (table-in w) = omega (arith, ap length (c .rows-duties .ensures)) in (
+      ap (λ (row : Row). kept (w .clock) (table-in w) (take (length (table-in w)) (set (w .rows) (c .args .row) row)))
+          (left w (c .args .row) (c .args .call) _ _ (c .rows-duties .ensures) (c .act .ensures .leaves))
+          ∙ asked-keeps (w .clock) (table-in w) (w .rows) (c .args .row) (c .args .call) (w .setting .admits) (w .keeps) short,
+      tt,
+    )
 
 pub returns : need.returns
 returns c =
     let w = c .args .self .now in
     let short : c .args .row < length (table-in w) = omega (arith, ap length (c .rows-duties .ensures)) in
     row-asked w _ (c .args .row) (c .args .call) (c .act .result) short (c .act .ensures .answers)
-      (ap (λ (row : Row). take (length (table-in w)) (set (w .rows) (c .args .row) row))
-        (left w (c .args .row) (c .args .call) _ _ (c .rows-duties .ensures) (c .act .ensures .leaves)))
-      refl
-      refl
+    (ap (λ (row : Row). take (length (table-in w)) (set (w .rows) (c .args .row) row))
+    (left w (c .args .row) (c .args .call) _ _ (c .rows-duties .ensures) (c .act .ensures .leaves)))
+    refl
+    refl
