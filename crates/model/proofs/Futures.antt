@@ -21,7 +21,7 @@ use Rattle.model.specs.declared.rows.RowCall.the-variants.{Release, Done}
 use Rattle.model.proofs.Accepting.{window-open, call-keeps}
 use Rattle.model.proofs.Demand.{need-later}
 use Rattle.model.proofs.Keeping.{Keeping, kept-gives}
-use Rattle.model.proofs.Sums.{sum-le, need-at, demand-is-sum}
+use Rattle.model.proofs.Sums.{demand-le}
 use Rattle.model.proofs.Ticks.{window-later, duty-tick-keeps, spare-tick-keeps}
 
 -- A row that has a job is there.
@@ -58,7 +58,7 @@ module _ (table : List Duty) (ok : admitted table ≡ true) where
   kept-before-due clock rows keeps i c d e at =
       let keeping = kept-gives clock table rows keeps in
       let there = ready-inside rows i c d e at in
-      let ahead = window-open table ok clock rows keeping i (omega (arith, keeping .numbers .same-length)) in
+      let ahead = window-open clock table rows keeping i (omega (arith, keeping .numbers .same-length)) in
       rw at at ahead
 
   -- so none is overdue,
@@ -75,18 +75,14 @@ module _ (table : List Duty) (ok : admitted table ≡ true) where
       (clock : ℕ) (rows : List Row) → kept clock table rows ≡ true
       → (i : ℕ) → i < length table
       → Slack-not-below-0 clock table rows i
-  kept-slack clock rows keeps i short =
+  kept-slack clock rows keeps i inside =
       let keeping = kept-gives clock table rows keeps in
-      let (x, ahead, (inside, met)) = keeping .cover i short in
+      let (x, ahead, (before-end, met)) = keeping .cover i inside in
       let at : clock + (x - clock) ≡ x = omega arith in
-      let enough : i < length rows = omega (arith, keeping .numbers .same-length) in
-      let less =
-      sum-le (need-at (clock + 1) table rows x) (need-at clock table rows x) (suc i)
-      (λ k h. need-later clock (clock + 1) (duty-at table k) (row-at rows k) x (omega arith)) in (
-        x - clock,
-        omega (arith, window-later clock (duty-at table i) (row-at rows i)),
-        rw at (omega (arith, demand-is-sum clock x (suc i) table rows short enough, demand-is-sum (clock + 1) x (suc i) table rows short enough)),
-      )
+      let no-more =
+      demand-le table i inside clock (clock + 1) x rows rows (keeping .numbers .same-length) (keeping .numbers .same-length)
+      (λ k h. need-later clock (clock + 1) (duty-at table k) (row-at rows k) x (omega arith)) in
+      (x - clock, omega (arith, window-later clock (duty-at table i) (row-at rows i)), rw at (omega arith))
 
   -- No lawful future from kept rows misses.
   pub kept-safe : (clock : ℕ) (rows : List Row) → kept clock table rows ≡ true → Safe table clock rows

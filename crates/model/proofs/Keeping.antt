@@ -71,10 +71,13 @@ rows-kept-from clock (duty ∷ table) (row ∷ rows) h =
     (rows-kept-from clock table rows
     (record { same-length = omega (arith, h .same-length); each = λ i short. h .each (suc i) (omega arith) }))
 
+-- The clock at which row i's window ends.
+abbrev pub end-at : ℕ → List Duty → List Row → ℕ → ℕ
+end-at from table rows i = window-end from (duty-at table i) (row-at rows i)
+
 -- By the clock x, within row i's window, the demand of row i up to x can be met from the clock `from` on.
 abbrev pub Met : ℕ → List Duty → List Row → ℕ → ℕ → Type 0
-Met from table rows i x =
-    (x ≤ window-end from (duty-at table i) (row-at rows i)) × (demand-at from table rows i x + from ≤ x)
+Met from table rows i x = (x ≤ end-at from table rows i) × (demand-at from table rows i x + from ≤ x)
 
 -- Row i is covered: its demand can be met by some clock that lies ahead.
 abbrev pub Covered : ℕ → List Duty → List Row → ℕ → Type 0
