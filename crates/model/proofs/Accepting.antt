@@ -1,17 +1,17 @@
 -- Every accepted call to a row keeps what a running machine keeps: no row needs more after it, and no window ends
 -- sooner.
-use Prim.Native.Nat.{ℕ, zero, suc, _+_, _-_, _*_, pred, max, _≤_, _<_}
+use Prim.Native.Nat.{ℕ, pred, _≤_, _<_}
 use mathlib.Core.Path.{_≡_, refl}
 use mathlib.Core.Bool.{Bool, true, false, cond}
 use mathlib.Core.List.{List, [], _∷_}
 use mathlib.Core.Logic.{⊎-elim}
 use native.Mathlib.Omega.{arith}
 use lib.Dec.{leb, ltb}
-use lib.ListN.{length, take, set, length-set}
+use lib.ListN.{length, set, length-set}
 use Rattle.std.proofs.shelf.Lists.{getD-set-same, getD-set-other}
-use Rattle.std.proofs.shelf.Tests.{cases-bool, cases-eq, cond-both, cond-true, cond-false, ltb-true, ltb-false, leb-true, leb-false}
+use Rattle.std.proofs.shelf.Tests.{cases-bool, cases-eq, cond-both, ltb-true, ltb-false, leb-false}
 use Rattle.model.specs.Kept.{kept}
-use Rattle.model.specs.Machine.{released, row-refusal, row-after, call-refusal, rows-after}
+use Rattle.model.specs.Machine.{row-refusal, row-after, call-refusal, rows-after}
 use Rattle.model.specs.Reckoning.{need, window-end, row-at, no-row}
 use Rattle.model.specs.Table.{admitted, duty-at}
 use Rattle.model.specs.declared.duties.Duty.{Duty}

@@ -1,6 +1,6 @@
 -- Accounts: no unit of an errand is lost or made up. Each call changes the units of one number at most, by what its
 -- answer says.
-use Prim.Native.Nat.{ℕ, zero, suc, _+_, pred, _≤_, _<_}
+use Prim.Native.Nat.{ℕ, _+_, pred, _≤_}
 use mathlib.Core.Path.{_≡_, refl, sym, ap, _∙_}
 use mathlib.Core.Bool.{Bool, true, false, cond, not, _&&_}
 use mathlib.Core.List.{List, [], _∷_}
@@ -11,7 +11,7 @@ use Rattle.std.specs.Options.{isSome}
 use Rattle.std.specs.declared.option.Option.{Option}
 use Rattle.std.specs.declared.option.Option.the-variants.{Some, None}
 use Rattle.std.specs.declared.result.Result.the-variants.{Ok, Err}
-use Rattle.std.proofs.shelf.Tests.{cases-bool, cases-eq, and-parts, leb-true, leb-false, eq-eqb, ne-eqb, cond-true, cond-false}
+use Rattle.std.proofs.shelf.Tests.{cases-bool, cases-eq, and-parts, leb-true, eq-eqb, ne-eqb, cond-true, cond-false}
 use Rattle.model.specs.Machine.{State, Step, Turn, errand-due, duty-turn}
 use Rattle.model.specs.Promise.{Accounts}
 use Rattle.model.specs.Queues.{Meaning, Sound, Changes, look, units-in, errand-within, distinct, one-less, put-refusal}

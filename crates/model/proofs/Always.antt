@@ -1,5 +1,4 @@
 -- The kept invariant at all times, over every admitted table.
-use mathlib.Core.Path.{_≡_}
 use Rattle.model.specs.Always.{Kept-always}
 use Rattle.model.specs.Machine.{fresh}
 use Rattle.model.proofs.Covering.{fresh-kept}

@@ -1,7 +1,7 @@
 -- What the proofs know of a quotient rounded up: it is 0 at 0, it does not fall, and one more separation
 -- adds one. Nothing else opens its definition.
-use Prim.Native.Nat.{ℕ, _+_, _-_, _*_, _/_, _≤_, _<_}
-use mathlib.Core.Path.{_≡_, refl, ap, _∙_}
+use Prim.Native.Nat.{ℕ, _+_, _-_, _/_, _≤_, _<_}
+use mathlib.Core.Path.{_≡_}
 use mathlib.Core.Logic.{⊎-elim}
 use native.Mathlib.Nat.{div-eq-of-lt, div-zero, le-div-iff-mul-le, div-mul-le-self, add-div-right}
 use native.Mathlib.Omega.{arith}

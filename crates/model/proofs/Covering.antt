@@ -1,6 +1,6 @@
 -- When a row is covered. Where its demand can be met by some clock within its window it is covered, even if that
 -- clock does not lie ahead: then none of the rows down to it has a job, and its response time serves.
-use Prim.Native.Nat.{ℕ, suc, _+_, _-_, _*_, _≤_, _<_}
+use Prim.Native.Nat.{ℕ, _+_, _-_, _*_, _≤_, _<_}
 use mathlib.Core.Path.{_≡_, refl, ap}
 use mathlib.Core.Bool.{true, false}
 use mathlib.Core.List.{List}

@@ -1,6 +1,6 @@
 -- Deadlines, read off the list of calls and answers: a job is followed from its release on, and as long as it has
 -- neither had all its ticks nor been called done its row has it, so that the clock lies before its deadline.
-use Prim.Native.Nat.{ℕ, zero, suc, _+_, _*_, pred, _≤_, _<_}
+use Prim.Native.Nat.{ℕ, _+_, pred, _≤_, _<_}
 use mathlib.Core.Path.{_≡_, refl, sym, ap, _∙_}
 use mathlib.Core.Bool.{Bool, true, false, cond, _&&_}
 use mathlib.Core.List.{List, [], _∷_, _++_}
@@ -8,34 +8,31 @@ use mathlib.Core.Logic.{_⊎_, inl, inr, ⊎-elim}
 use native.Mathlib.Omega.{arith}
 use lib.Dec.{leb, eqb}
 use lib.ListN.{length, set}
-use Rattle.std.specs.declared.option.Option.the-variants.{Some, None}
 use Rattle.std.specs.declared.result.Result.the-variants.{Ok, Err}
 use Rattle.std.proofs.shelf.Lists.{getD-set-same, getD-set-other}
-use Rattle.std.proofs.shelf.Tests.{cases-bool, cases-lt, cases-eq, both-ways, and-left, and-right, eqb-true, eqb-false, eq-eqb, ne-eqb, leb-true, cond-true, cond-false}
+use Rattle.std.proofs.shelf.Tests.{cases-bool, cases-eq, and-left, and-right, eq-eqb, ne-eqb, leb-true, cond-true, cond-false}
 use Rattle.model.specs.Kept.{kept}
-use Rattle.model.specs.Machine.{State, Step, Turn, released, row-after, rows-after, call-refusal, errand-due, duty-turn, duty-tick, first-ready, fresh}
-use Rattle.model.specs.Promise.{Deadlines, Finished}
+use Rattle.model.specs.Machine.{State, Step, Turn, released, row-after, rows-after, call-refusal, errand-due, duty-turn, duty-tick, fresh}
+use Rattle.model.specs.Promise.{Deadlines}
 use Rattle.model.specs.Queues.{Meaning}
 use Rattle.model.specs.Reckoning.{row-at, no-row}
 use Rattle.model.specs.Runs.{Run, stay, step, Trace, was-accepted, of-tick, anyone, row-had, is-release, is-done, ticks, row-ticks, dones, until-release}
 use Rattle.model.specs.Table.{admitted, duty-at}
 use Rattle.model.specs.declared.calls.Answer.{Answer}
-use Rattle.model.specs.declared.calls.Answer.the-variants.{Accepted, Ticked, Refused}
+use Rattle.model.specs.declared.calls.Answer.the-variants.{Accepted, Ticked}
 use Rattle.model.specs.declared.calls.Call.{Call}
 use Rattle.model.specs.declared.calls.Call.the-variants.{Release, Done, Request, Withdraw, Slack, Tick}
 use Rattle.model.specs.declared.calls.Who.{Who}
-use Rattle.model.specs.declared.calls.Who.the-variants.{Nobody, Duty as For-duty, Errand as For-errand}
+use Rattle.model.specs.declared.calls.Who.the-variants.{Duty as For-duty}
 use Rattle.model.specs.declared.duties.Duty.{Duty}
 use Rattle.model.specs.declared.rows.Row.{Row}
 use Rattle.model.specs.declared.rows.Row.the-variants.{Idle, Ready}
-use Rattle.model.specs.declared.rows.RowCall.{RowCall}
 use Rattle.model.specs.declared.rows.RowCall.the-variants.{Release as Row-release, Done as Row-done, Run as Row-run}
 use Rattle.model.proofs.Accepting.{call-accepted, release-allowed}
 use Rattle.model.proofs.Admitted.{admitted-limits}
 use Rattle.model.proofs.Covering.{fresh-kept}
 use Rattle.model.proofs.Futures.{ready-inside, kept-before-due}
 use Rattle.model.proofs.Keeping.{kept-gives}
-use Rattle.model.proofs.Searches.{Is-least}
 use Rattle.model.proofs.Stepping.{step-kept, run-kept, run-split, run-first}
 use Rattle.model.proofs.Ticks.{turn-cases}
 

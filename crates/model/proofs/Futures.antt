@@ -1,7 +1,7 @@
 -- Lawful futures from kept rows never miss, so that a tick spared with slack left can hurt nobody.
-use Prim.Native.Nat.{ℕ, zero, suc, _+_, _-_, max, _≤_, _<_}
+use Prim.Native.Nat.{ℕ, zero, suc, _+_, _-_, _≤_, _<_}
 use mathlib.Core.Path.{_≡_, refl, sym, ap}
-use mathlib.Core.Bool.{Bool, true, false, _||_}
+use mathlib.Core.Bool.{true, false}
 use mathlib.Core.List.{List, [], _∷_}
 use mathlib.Core.Logic.{⊎-elim}
 use native.Mathlib.Omega.{arith}
@@ -9,7 +9,7 @@ use lib.Dec.{eqb}
 use lib.ListN.{length}
 use Rattle.std.proofs.shelf.Lists.{getD-past}
 use Rattle.std.proofs.shelf.Tests.{cases-bool, cases-lt, both-ways, or-cases, or-left, or-right, eqb-true, eq-eqb}
-use Rattle.model.specs.Futures.{Move, release, finish, tick, Lawful, overdue, misses, Safe}
+use Rattle.model.specs.Futures.{release, finish, tick, overdue, misses, Safe}
 use Rattle.model.specs.Kept.{kept, Slack-not-below-0}
 use Rattle.model.specs.Machine.{rows-after, duty-tick}
 use Rattle.model.specs.Reckoning.{table-slack, row-at, no-row}
@@ -20,7 +20,7 @@ use Rattle.model.specs.declared.rows.Row.the-variants.{Idle, Ready}
 use Rattle.model.specs.declared.rows.RowCall.the-variants.{Release, Done}
 use Rattle.model.proofs.Accepting.{window-open, call-keeps}
 use Rattle.model.proofs.Demand.{need-later}
-use Rattle.model.proofs.Keeping.{Keeping, kept-gives}
+use Rattle.model.proofs.Keeping.{kept-gives}
 use Rattle.model.proofs.Sums.{demand-le}
 use Rattle.model.proofs.Ticks.{window-later, duty-tick-keeps, spare-tick-keeps}
 

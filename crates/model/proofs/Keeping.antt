@@ -1,13 +1,12 @@
 -- The kept invariant as facts about each row, in place of tests: proofs take it apart and put it together here.
-use Prim.Native.Nat.{ℕ, zero, suc, _+_, _-_, max, _≤_, _<_}
+use Prim.Native.Nat.{ℕ, zero, suc, _+_, _-_, _≤_, _<_}
 use mathlib.Core.Path.{_≡_, refl}
-use mathlib.Core.Bool.{Bool, true, false, _&&_}
+use mathlib.Core.Bool.{true, _&&_}
 use mathlib.Core.List.{List, [], _∷_}
 use mathlib.Core.Logic.{⊎-elim}
 use native.Mathlib.Omega.{arith}
 use lib.Dec.{leb, eqb}
-use lib.ListN.{length, take}
-use Rattle.std.specs.Options.{isSome}
+use lib.ListN.{length}
 use Rattle.std.proofs.shelf.Tests.{and-parts, and-from, leb-true, le-leb, eqb-true, eq-eqb, cases-order}
 use Rattle.model.specs.Kept.{row-kept, rows-kept, covers, covered, all-covered, kept}
 use Rattle.model.specs.Reckoning.{demand-at, window, window-end, row-at}

@@ -1,17 +1,17 @@
 -- A table without slack cannot spare a tick: after it, the lawful future that releases every idle row as soon as it
 -- may misses the deadline of the row that has no slack. Through that future the row's demand stays above what the
 -- ticks up to the end of its window can give, until the clock is there and the row still has its job.
-use Prim.Native.Nat.{ℕ, zero, suc, _+_, _-_, _*_, max, _≤_, _<_}
-use mathlib.Core.Path.{_≡_, refl, sym, ap, _∙_}
-use mathlib.Core.Bool.{Bool, true, false, cond, _||_}
+use Prim.Native.Nat.{ℕ, zero, suc, _+_, _-_, max, _≤_, _<_}
+use mathlib.Core.Path.{_≡_, refl, ap, _∙_}
+use mathlib.Core.Bool.{true, false, cond}
 use mathlib.Core.List.{List, [], _∷_}
-use mathlib.Core.Logic.{_⊎_, inl, inr, ⊎-elim}
+use mathlib.Core.Logic.{⊎-elim}
 use native.Mathlib.Omega.{arith}
 use lib.Dec.{leb, ltb}
-use lib.ListN.{length, set, length-set}
+use lib.ListN.{length, set}
 use Rattle.std.proofs.shelf.Lists.{getD-set-same, getD-set-other}
 use Rattle.std.proofs.shelf.Tests.{cases-bool, cases-lt, cases-eq, both-ways, or-right, lt-ltb, le-ltb, cond-true, cond-false}
-use Rattle.model.specs.Futures.{Move, release, finish, tick, Lawful, overdue, misses, Safe}
+use Rattle.model.specs.Futures.{release, tick, overdue, misses, Safe}
 use Rattle.model.specs.Kept.{kept}
 use Rattle.model.specs.Machine.{released, row-refusal, row-after, call-refusal, rows-after, is-ready, ready-at, duty-tick}
 use Rattle.model.specs.Reckoning.{need, demand-at, window, window-end, spare, row-slack, table-slack, row-at, no-row}
@@ -30,7 +30,7 @@ use Rattle.model.proofs.Futures.{row-overdue}
 use Rattle.model.proofs.Keeping.{Row-numbers, Numbers, end-at, Keeping, kept-gives}
 use Rattle.model.proofs.Searches.{Is-least}
 use Rattle.model.proofs.Sums.{need-at, demand-none, demand-le, demand-one-less}
-use Rattle.model.proofs.Ticks.{turn-cases, row-numbers-later, numbers-later, window-later, run-accepted}
+use Rattle.model.proofs.Ticks.{turn-cases, numbers-later, window-later, run-accepted}
 
 -- What is safe stays safe through a lawful move.
 pub safe-release :

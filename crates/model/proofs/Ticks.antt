@@ -1,19 +1,19 @@
 -- A tick keeps what a running machine keeps: one that goes to the duties always, one that goes to an errand where the
 -- table's slack is at least 1.
-use Prim.Native.Nat.{ℕ, zero, suc, _+_, _-_, _*_, max, _≤_, _<_}
+use Prim.Native.Nat.{ℕ, _+_, _≤_, _<_}
 use mathlib.Core.Path.{_≡_, refl, ap, _∙_}
-use mathlib.Core.Bool.{Bool, true, false}
-use mathlib.Core.List.{List, [], _∷_}
+use mathlib.Core.Bool.{true, false}
+use mathlib.Core.List.{List, []}
 use mathlib.Core.Logic.{_⊎_, inl, inr, ⊎-elim}
 use native.Mathlib.Omega.{arith}
-use lib.ListN.{length, set, length-set}
+use lib.ListN.{length, set}
 use Rattle.std.specs.declared.option.Option.{Option}
 use Rattle.std.specs.declared.option.Option.the-variants.{Some, None}
 use Rattle.std.proofs.shelf.Lists.{getD-set-same, getD-set-other}
-use Rattle.std.proofs.shelf.Tests.{cases-bool, cases-lt, both-ways}
+use Rattle.std.proofs.shelf.Tests.{cases-lt, both-ways}
 use Rattle.model.specs.Kept.{kept}
 use Rattle.model.specs.Machine.{row-refusal, row-after, rows-after, is-ready, ready-at, first-ready, duty-tick}
-use Rattle.model.specs.Reckoning.{need, demand-at, window, window-end, spare, row-slack, table-slack, row-at, no-row}
+use Rattle.model.specs.Reckoning.{need, window, window-end, spare, table-slack, row-at, no-row}
 use Rattle.model.specs.Table.{admitted, duty-at}
 use Rattle.model.specs.declared.duties.Duty.{Duty}
 use Rattle.model.specs.declared.rows.Row.{Row}
