@@ -25,7 +25,7 @@ use Rattle.model.proofs.Keeping.{Row-numbers, Numbers, end-at, Keeping, kept-g
 use Rattle.model.proofs.Sums.{need-at, demand-le}
 
 -- A cond that is [] where its first way is not: the test failed.
-pub second-way : (b : Bool) (n : ℕ) → cond b (n ∷ []) [] ≡ [] → b ≡ false
+second-way : (b : Bool) (n : ℕ) → cond b (n ∷ []) [] ≡ [] → b ≡ false
 second-way true n h = absurd (let z : _≡_ {A = ℕ} 0 1 = cc in omega arith)
 second-way false n h = refl
 
@@ -133,7 +133,7 @@ module _
       (eased .ends) (λ j other. omega arith)
 
   -- so all rows stay covered.
-  pub eased-keeps : Keeping clock table rows → Keeping clock table (set rows k row)
+  eased-keeps : Keeping clock table rows → Keeping clock table (set rows k row)
   eased-keeps keeping =
       let later = eased-numbers (keeping .numbers) in
       record {

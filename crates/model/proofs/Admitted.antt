@@ -13,13 +13,14 @@ use Rattle.model.specs.Table.{busy, within-limits, all-within, suffices, respo
 use Rattle.model.specs.declared.duties.Duty.{Duty}
 use Rattle.model.proofs.Found.{search-finds, search-fails}
 
--- 1 ≤ cost ≤ deadline ≤ separation.
+-- 1 ≤ cost ≤ deadline ≤ separation ≤ 4,096.
 pub record Limits (duty : Duty) : Type 0 where
   pub cost-some : 1 ≤ duty .cost
   pub cost-fits : duty .cost ≤ duty .deadline
   pub deadline-fits : duty .deadline ≤ duty .separation
+  pub separation-fits : duty .separation ≤ 4096
 
-pub limits-of : (duty : Duty) → within-limits duty ≡ true → Limits duty
+limits-of : (duty : Duty) → within-limits duty ≡ true → Limits duty
 limits-of duty h =
     let (rest, small) = and-parts (leb 1 (duty .cost) && leb (duty .cost) (duty .deadline) && leb (duty .deadline) (duty .separation)) (leb (duty .separation) 4096) h in
     let (first, apart) = and-parts (leb 1 (duty .cost) && leb (duty .cost) (duty .deadline)) (leb (duty .deadline) (duty .separation)) rest in
@@ -28,9 +29,10 @@ limits-of duty h =
       cost-some = leb-true 1 (duty .cost) some;
       cost-fits = leb-true (duty .cost) (duty .deadline) fits;
       deadline-fits = leb-true (duty .deadline) (duty .separation) apart;
+      separation-fits = leb-true (duty .separation) 4096 small;
     }
 
-pub all-within-at : (table : List Duty) → all-within table ≡ true → (i : ℕ) → i < length table → Limits (duty-at table i)
+all-within-at : (table : List Duty) → all-within table ≡ true → (i : ℕ) → i < length table → Limits (duty-at table i)
 all-within-at [] h i short = absurd (omega arith)
 all-within-at (duty ∷ table) h zero short = limits-of duty (and-parts (within-limits duty) (all-within table) h .0)
 all-within-at (duty ∷ table) h (suc i) short =

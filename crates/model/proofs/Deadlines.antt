@@ -53,22 +53,22 @@ step-clock table s Tick answer s′ (Ok told, answered, (room, slack-is, clock-r
 step-clock table s Tick answer s′ (Err why, answered, (ended, refused, same)) = rw (same, answered) (omega arith)
 
 -- Whatever a row was, a release gives it the new job.
-pub release-after : (duty : Duty) (clock : ℕ) (row : Row) → row-after duty clock row Row-release ≡ released duty clock
+release-after : (duty : Duty) (clock : ℕ) (row : Row) → row-after duty clock row Row-release ≡ released duty clock
 release-after duty clock (Idle e) = refl
 release-after duty clock (Ready c d e) = refl
 
 -- What a call with its answer makes of row i's job with c units left, deadline d and next release e: it had all its
 -- ticks, or was called done, or the row still has it with no fewer units left than those not had.
-abbrev pub Goes-on : ℕ → ℕ → ℕ → ℕ → Call → Answer → State → Type 0
+abbrev Goes-on : ℕ → ℕ → ℕ → ℕ → Call → Answer → State → Type 0
 Goes-on i c d e call answer s′ =
     (c ≤ of-tick (row-had i) answer)
     ⊎ ((1 ≤ cond (is-done i call && was-accepted answer) 1 0)
     ⊎ ((c′ : ℕ) × (row-at (s′ .rows) i ≡ Ready c′ d e) × (c ≤ of-tick (row-had i) answer + c′)))
 
 -- The job is followed through one call: its row is not released again.
-pub record Followed (i c d e : ℕ) (call : Call) (answer : Answer) (s′ : State) : Type 0 where
-  pub not-released : (is-release i call && was-accepted answer) ≡ false
-  pub goes-on : Goes-on i c d e call answer s′
+record Followed (i c d e : ℕ) (call : Call) (answer : Answer) (s′ : State) : Type 0 where
+  not-released : (is-release i call && was-accepted answer) ≡ false
+  goes-on : Goes-on i c d e call answer s′
 
 -- A call that is no accepted release of row i and leaves the row as it is.
 left-alone :
@@ -138,7 +138,7 @@ module _ (table : List Duty) (ok : admitted table ≡ true) (i c d e : ℕ) wher
       (turn-cases (s .rows))
 
   -- The job is followed through any call.
-  pub followed :
+  followed :
       (s : State) (call : Call) (answer : Answer) (s′ : State)
       → Step table s call answer s′
       → kept (s .clock) table (s .rows) ≡ true

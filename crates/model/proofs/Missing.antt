@@ -33,34 +33,34 @@ use Rattle.model.proofs.Sums.{need-at, demand-none, demand-le, demand-one-less
 use Rattle.model.proofs.Ticks.{turn-cases, numbers-later, window-later, run-accepted}
 
 -- What is safe stays safe through a lawful move.
-pub safe-release :
+safe-release :
     (table : List Duty) (clock : ℕ) (rows : List Row) (k : ℕ)
     → Safe table clock rows → call-refusal clock rows k Release ≡ [] → Safe table clock (rows-after table clock rows k Release)
 safe-release table clock rows k safe accepted moves lawful missed =
     safe (release k ∷ moves) (accepted, lawful) (or-right (overdue clock rows) (misses table clock (rows-after table clock rows k Release) moves) missed)
 
-pub safe-tick :
+safe-tick :
     (table : List Duty) (clock : ℕ) (rows : List Row) → Safe table clock rows → Safe table (clock + 1) (duty-tick table clock rows)
 safe-tick table clock rows safe moves lawful missed =
     safe (tick ∷ moves) lawful (or-right (overdue clock rows) (misses table (clock + 1) (duty-tick table clock rows) moves) missed)
 
 -- The row cannot be released at the clock: it has a job, or its earliest release lies ahead.
-abbrev pub Prompt : ℕ → Row → Type 0
+abbrev Prompt : ℕ → Row → Type 0
 Prompt clock (Idle e) = clock < e
 Prompt clock (Ready c d e) = Unit {0}
 
 -- So a tick that leaves it as it is changes neither its need nor its window.
-pub prompt-need : (clock : ℕ) (duty : Duty) (row : Row) (x : ℕ) → Prompt clock row → need (clock + 1) duty row x ≡ need clock duty row x
+prompt-need : (clock : ℕ) (duty : Duty) (row : Row) (x : ℕ) → Prompt clock row → need (clock + 1) duty row x ≡ need clock duty row x
 prompt-need clock duty (Idle e) x ahead =
     let same : max e (clock + 1) ≡ max e clock = omega arith in rw same
 prompt-need clock duty (Ready c d e) x ahead = refl
 
-pub prompt-window : (clock : ℕ) (duty : Duty) (row : Row) → Prompt clock row → window-end (clock + 1) duty row ≡ window-end clock duty row
+prompt-window : (clock : ℕ) (duty : Duty) (row : Row) → Prompt clock row → window-end (clock + 1) duty row ≡ window-end clock duty row
 prompt-window clock duty (Idle e) ahead = omega arith
 prompt-window clock duty (Ready c d e) ahead = refl
 
 -- A release leaves the window as it was, and at least the need.
-pub release-needs :
+release-needs :
     (clock : ℕ) (duty : Duty) (e x : ℕ)
     → e ≤ clock → clock ≤ x → 1 ≤ duty .separation → need clock duty (Idle e) x ≤ need clock duty (released duty clock) x
 release-needs clock duty e x allowed later pos =
@@ -70,7 +70,7 @@ release-needs clock duty e x allowed later pos =
     (cases-lt clock x)
 
 -- A window that the clock has not passed, of a row whose job is not overdue, is open.
-pub still-open :
+still-open :
     (clock : ℕ) (duty : Duty) (row : Row)
     → Limits duty → ((c e : ℕ) → row ≡ Ready c clock e → ⊥) → clock ≤ window-end clock duty row → clock < window-end clock duty row
 still-open clock duty (Idle e) limits timely passed = omega (arith, limits)
@@ -82,7 +82,7 @@ still-open clock duty (Ready c d e) limits timely passed =
 
 -- A tick of work takes at most one from the need of a row whose window is open, and leaves its window where the row
 -- still has its job.
-pub work-needs :
+work-needs :
     (clock : ℕ) (duty : Duty) (row : Row) (x : ℕ)
     → Limits duty
     → Row-numbers clock duty row
@@ -93,7 +93,7 @@ work-needs clock duty (Idle e) x limits numbers ready ahead = absurd (both-ways 
 work-needs clock duty (Ready c d e) x limits numbers ready ahead =
     need-run-at-most (clock + 1) clock duty c d e x (omega (arith, limits, numbers))
 
-pub work-window :
+work-window :
     (clock : ℕ) (duty : Duty) (row : Row)
     → is-ready (row-after duty clock row Run) ≡ true → window-end (clock + 1) duty (row-after duty clock row Run) ≡ window-end clock duty row
 work-window clock duty (Idle e) ready = absurd (both-ways false refl ready)

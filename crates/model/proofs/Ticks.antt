@@ -42,7 +42,7 @@ turn-cases rows = go (first-ready rows) refl
     go (Some k) e = inr (k, e, least-found (ready-at rows) 0 (length rows) k e)
 
 -- One clock later a row's numbers are still kept and its window ends no sooner.
-pub row-numbers-later : (clock : ℕ) (duty : Duty) (row : Row) → Row-numbers clock duty row → Row-numbers (clock + 1) duty row
+row-numbers-later : (clock : ℕ) (duty : Duty) (row : Row) → Row-numbers clock duty row → Row-numbers (clock + 1) duty row
 row-numbers-later clock duty (Idle e) numbers = omega arith
 row-numbers-later clock duty (Ready c d e) numbers = omega (arith, numbers)
 
@@ -62,7 +62,7 @@ pub run-accepted : (clock : ℕ) (row : Row) → row-refusal clock row Run ≡ [
 run-accepted clock (Idle e) = refl
 run-accepted clock (Ready c d e) = refl
 
-pub run-needs-less :
+run-needs-less :
     (from clock : ℕ) (duty : Duty) (row : Row) (x : ℕ)
     → is-ready row ≡ true → Row-numbers clock duty row → need from duty (row-after duty clock row Run) x + 1 ≤ need from duty row x
 run-needs-less from clock duty (Idle e) x ready numbers = absurd (both-ways false refl ready)
@@ -128,7 +128,7 @@ module _ (table : List Duty) (ok : admitted table ≡ true) where
           omega arith,
         )
 
-    pub run-keeps : Keeping (clock + 1) table (rows-after table clock rows k Run)
+    run-keeps : Keeping (clock + 1) table (rows-after table clock rows k Run)
     run-keeps =
         record {
           numbers = numbers-then;
