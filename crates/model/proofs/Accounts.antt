@@ -12,6 +12,7 @@ use Rattle.std.specs.declared.option.Option.{Option}
 use Rattle.std.specs.declared.option.Option.the-variants.{Some, None}
 use Rattle.std.specs.declared.result.Result.the-variants.{Ok, Err}
 use Rattle.std.proofs.shelf.Tests.{cases-bool, cases-eq, and-parts, leb-true, eq-eqb, ne-eqb, cond-true, cond-false}
+use Rattle.std.proofs.shelf.Ways.{tells}
 use Rattle.model.specs.Machine.{State, Step, Turn, errand-due, duty-turn}
 use Rattle.model.specs.Promise.{Accounts}
 use Rattle.model.specs.Queues.{Meaning, Sound, Changes, look, units-in, errand-within, distinct, one-less, put-refusal}
@@ -44,12 +45,9 @@ waiting-some : (es : List Errand) (n : ℕ) (e : Errand) → distinct es ≡ tru
 waiting-some [] n e apart found = absurd (let z : _≡_ {A = ℕ} 0 1 = cc in omega arith)
 waiting-some (first ∷ es) n e apart found =
     let (own, rest) = and-parts (errand-within first && not (isSome (look es (first .number)))) (distinct es) apart in
-    let (within, alone) = and-parts (errand-within first) (not (isSome (look es (first .number)))) own in
-    let (units, worth) = and-parts (leb 1 (first .units) && leb (first .units) 4096) (leb (first .worth) 65535) within in
-    let (some, few) = and-parts (leb 1 (first .units)) (leb (first .units) 4096) units in
+    let some : 1 ≤ first .units = grind (arith, tells) in
     ⊎-elim
-    (λ here. let same : first ≡ e = cc (cond-true (eqb (first .number) n) (Some first) (look es n) here) in
-    rw (← same) (leb-true 1 (first .units) some))
+    (λ here. let same : first ≡ e = cc (cond-true (eqb (first .number) n) (Some first) (look es n) here) in rw (← same) some)
     (λ below. waiting-some es n e rest (sym (cond-false (eqb (first .number) n) (Some first) (look es n) below) ∙ found))
     (cases-bool (eqb (first .number) n))
 

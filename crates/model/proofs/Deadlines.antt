@@ -7,7 +7,7 @@ use mathlib.Core.List.{List, [], _∷_, _++_}
 use mathlib.Core.Logic.{_⊎_, inl, inr, ⊎-elim}
 use native.Mathlib.Omega.{arith}
 use lib.Dec.{leb, eqb}
-use lib.ListN.{length, set}
+use lib.ListN.{length}
 use Rattle.std.specs.declared.result.Result.the-variants.{Ok, Err}
 use Rattle.std.proofs.shelf.Lists.{getD-set-same, getD-set-other}
 use Rattle.std.proofs.shelf.Tests.{cases-bool, cases-eq, and-left, and-right, eq-eqb, ne-eqb, leb-true, cond-true, cond-false}
@@ -27,6 +27,7 @@ use Rattle.model.specs.declared.calls.Who.the-variants.{Duty as For-duty}
 use Rattle.model.specs.declared.duties.Duty.{Duty}
 use Rattle.model.specs.declared.rows.Row.{Row}
 use Rattle.model.specs.declared.rows.Row.the-variants.{Idle, Ready}
+use Rattle.model.specs.declared.rows.RowCall.{RowCall}
 use Rattle.model.specs.declared.rows.RowCall.the-variants.{Release as Row-release, Done as Row-done, Run as Row-run}
 use Rattle.model.proofs.Accepting.{call-accepted, release-allowed}
 use Rattle.model.proofs.Admitted.{admitted-limits}
@@ -70,6 +71,10 @@ record Followed (i c d e : ℕ) (call : Call) (answer : Answer) (s′ : State) :
   not-released : (is-release i call && was-accepted answer) ≡ false
   goes-on : Goes-on i c d e call answer s′
 
+-- Row j after a call to it.
+abbrev row-then : List Duty → State → ℕ → RowCall → Row
+row-then table s j call = row-after (duty-at table j) (s .clock) (row-at (s .rows) j) call
+
 -- A call that is no accepted release of row i and leaves the row as it is.
 left-alone :
     (i c d e : ℕ) (call : Call) (answer : Answer) (s′ : State)
@@ -95,9 +100,13 @@ module _ (table : List Duty) (ok : admitted table ≡ true) (i c d e : ℕ) wher
 
   -- A row other than the one called is as it was.
   other-row :
-      (s s′ : State) (j : ℕ) (row : Row)
-      → s′ .rows ≡ set (s .rows) j row → (j ≡ i → ⊥) → row-at (s .rows) i ≡ Ready c d e → row-at (s′ .rows) i ≡ Ready c d e
-  other-row s s′ j row rows-are other at = rw rows-are (getD-set-other (s .rows) j i row no-row (λ same. other (sym same)) ∙ at)
+      (s s′ : State) (j : ℕ) (call : RowCall)
+      → s′ .rows ≡ rows-after table (s .clock) (s .rows) j call
+      → (j ≡ i → ⊥)
+      → row-at (s .rows) i ≡ Ready c d e
+      → row-at (s′ .rows) i ≡ Ready c d e
+  other-row s s′ j call rows-are other at =
+      rw rows-are (getD-set-other (s .rows) j i (row-then table s j call) no-row (λ same. other (sym same)) ∙ at)
 
   -- Row i itself has the tick.
   followed-work :
@@ -110,7 +119,7 @@ module _ (table : List Duty) (ok : admitted table ≡ true) (i c d e : ℕ) wher
       let had : row-had i who ≡ 1 = rw who-had (cond-true (eqb i i) 1 0 (eq-eqb i i refl)) in
       let now : row-at (s′ .rows) i ≡ row-after (duty-at table i) (s .clock) (Ready c d e) Row-run =
       rw rows-are
-      (getD-set-same (s .rows) i (row-after (duty-at table i) (s .clock) (row-at (s .rows) i) Row-run) no-row (ready-inside (s .rows) i c d e at)
+      (getD-set-same (s .rows) i (row-then table s i Row-run) no-row (ready-inside (s .rows) i c d e at)
       ∙ ap (λ row. row-after (duty-at table i) (s .clock) row Row-run) at) in
       record {
         not-released = refl;
@@ -133,7 +142,7 @@ module _ (table : List Duty) (ok : admitted table ≡ true) (i c d e : ℕ) wher
       let who-had : who ≡ For-duty k = rw (found, duty-turn) at had in
       ⊎-elim
       (λ same. followed-work s slack who s′ (rw same at who-had) (rw same at rows-then) at)
-      (λ other. left-alone i c d e Tick (Ticked slack who) s′ refl (other-row s s′ k (row-after (duty-at table k) (s .clock) (row-at (s .rows) k) Row-run) rows-then other at))
+      (λ other. left-alone i c d e Tick (Ticked slack who) s′ refl (other-row s s′ k Row-run rows-then other at))
       (cases-eq k i))
       (turn-cases (s .rows))
 
@@ -148,7 +157,7 @@ module _ (table : List Duty) (ok : admitted table ≡ true) (i c d e : ℕ) wher
       let other = released-other s j keeps at accepted in
       left-alone i c d e (Release j) answer s′
       (and-left (eqb j i) (was-accepted answer) (ne-eqb j i other))
-      (other-row s s′ j (row-after (duty-at table j) (s .clock) (row-at (s .rows) j) Row-release) rows-are other at)
+      (other-row s s′ j Row-release rows-are other at)
   followed s (Release j) answer s′ (Err why, answered, (refused, same)) keeps at =
       left-alone i c d e (Release j) answer s′ (and-right (eqb j i) (was-accepted answer) (rw answered)) (rw same at)
   followed s (Done j) answer s′ (Ok x, answered, (accepted, rows-are, clock-stays, queue-stays)) keeps at =
@@ -158,7 +167,7 @@ module _ (table : List Duty) (ok : admitted table ≡ true) (i c d e : ℕ) wher
         goes-on = inr (inl (rw (answered, eq-eqb j i same) (omega arith)));
       })
       (λ other. left-alone i c d e (Done j) answer s′ refl
-      (other-row s s′ j (row-after (duty-at table j) (s .clock) (row-at (s .rows) j) Row-done) rows-are other at))
+      (other-row s s′ j Row-done rows-are other at))
       (cases-eq j i)
   followed s (Done j) answer s′ (Err why, answered, (refused, same)) keeps at = left-alone i c d e (Done j) answer s′ refl (rw same at)
   followed s (Request errand) answer s′ (r, answered, (put, (clock-stays, rows-stay))) keeps at =
@@ -205,7 +214,7 @@ module _ (table : List Duty) (ok : admitted table ≡ true) where
   released-now s s′ i (Ok x, answered, (accepted, rows-are, clock-stays, queue-stays)) = (
     clock-stays,
     rw rows-are
-        (getD-set-same (s .rows) i (row-after (duty-at table i) (s .clock) (row-at (s .rows) i) Row-release) no-row
+        (getD-set-same (s .rows) i (row-then table s i Row-release) no-row
         (call-accepted (s .clock) (s .rows) i Row-release accepted .0)
         ∙ release-after (duty-at table i) (s .clock) (row-at (s .rows) i)),
   )
@@ -218,5 +227,6 @@ module _ (table : List Duty) (ok : admitted table ≡ true) where
       let (mid, job, last) = run-split table s′ during after end following in
       let (clock-stays, at) = released-now s s′ i release in
       let keeps = run-kept table ok (fresh table m) before s first (fresh-kept table ok) in
-      job-finishes s′ during mid i (duty-at table i .cost) (s .clock + duty-at table i .deadline) (s .clock + duty-at table i .separation) job
+      let duty = duty-at table i in
+      job-finishes s′ during mid i (duty .cost) (s .clock + duty .deadline) (s .clock + duty .separation) job
       (step-kept table ok s (Release i) Accepted s′ release keeps) at (omega arith)

@@ -1,13 +1,13 @@
 -- The kept invariant as facts about each row, in place of tests: proofs take it apart and put it together here.
 use Prim.Native.Nat.{ℕ, zero, suc, _+_, _-_, _≤_, _<_}
 use mathlib.Core.Path.{_≡_, refl}
-use mathlib.Core.Bool.{true, _&&_}
+use mathlib.Core.Bool.{true}
 use mathlib.Core.List.{List, [], _∷_}
 use mathlib.Core.Logic.{⊎-elim}
 use native.Mathlib.Omega.{arith}
-use lib.Dec.{leb, eqb}
 use lib.ListN.{length}
-use Rattle.std.proofs.shelf.Tests.{and-parts, and-from, leb-true, le-leb, eqb-true, eq-eqb, cases-order}
+use Rattle.std.proofs.shelf.Tests.{and-parts, and-from, leb-true, le-leb, cases-order}
+use Rattle.std.proofs.shelf.Ways.{tells}
 use Rattle.model.specs.Kept.{row-kept, rows-kept, covers, covered, all-covered, kept}
 use Rattle.model.specs.Reckoning.{demand-at, window, window-end, row-at}
 use Rattle.model.specs.Table.{duty-at}
@@ -25,23 +25,11 @@ Row-numbers clock duty (Ready c d e) =
 pub row-kept-gives : (clock : ℕ) (duty : Duty) (row : Row) → row-kept clock duty row ≡ true → Row-numbers clock duty row
 row-kept-gives clock duty (Idle e) h = leb-true e (clock + duty .separation) h
 row-kept-gives clock duty (Ready c d e) h =
-    let (rest, near) = and-parts (leb 1 c && leb c (duty .cost) && eqb (d + duty .separation) (e + duty .deadline)) (leb e (clock + duty .separation)) h in
-    let (units, apart) = and-parts (leb 1 c && leb c (duty .cost)) (eqb (d + duty .separation) (e + duty .deadline)) rest in
-    let (some, few) = and-parts (leb 1 c) (leb c (duty .cost)) units in (
-      leb-true 1 c some,
-      leb-true c (duty .cost) few,
-      eqb-true (d + duty .separation) (e + duty .deadline) apart,
-      leb-true e (clock + duty .separation) near,
-    )
+    (grind (arith, tells), grind (arith, tells), grind (arith, tells), grind (arith, tells))
 
 pub row-kept-from : (clock : ℕ) (duty : Duty) (row : Row) → Row-numbers clock duty row → row-kept clock duty row ≡ true
 row-kept-from clock duty (Idle e) h = le-leb e (clock + duty .separation) h
-row-kept-from clock duty (Ready c d e) h =
-    and-from (leb 1 c && leb c (duty .cost) && eqb (d + duty .separation) (e + duty .deadline)) (leb e (clock + duty .separation))
-    (and-from (leb 1 c && leb c (duty .cost)) (eqb (d + duty .separation) (e + duty .deadline))
-    (and-from (leb 1 c) (leb c (duty .cost)) (le-leb 1 c (h .0)) (le-leb c (duty .cost) (h .1)))
-    (eq-eqb (d + duty .separation) (e + duty .deadline) (h .2)))
-    (le-leb e (clock + duty .separation) (h .3))
+row-kept-from clock duty (Ready c d e) h = grind (arith, tells)
 
 -- There is a state for each row, with its numbers kept.
 pub record Numbers (clock : ℕ) (table : List Duty) (rows : List Row) : Type 0 where

@@ -37,7 +37,8 @@ safe-release :
     (table : List Duty) (clock : ℕ) (rows : List Row) (k : ℕ)
     → Safe table clock rows → call-refusal clock rows k Release ≡ [] → Safe table clock (rows-after table clock rows k Release)
 safe-release table clock rows k safe accepted moves lawful missed =
-    safe (release k ∷ moves) (accepted, lawful) (or-right (overdue clock rows) (misses table clock (rows-after table clock rows k Release) moves) missed)
+    safe (release k ∷ moves) (accepted, lawful)
+    (or-right (overdue clock rows) (misses table clock (rows-after table clock rows k Release) moves) missed)
 
 safe-tick :
     (table : List Duty) (clock : ℕ) (rows : List Row) → Safe table clock rows → Safe table (clock + 1) (duty-tick table clock rows)
@@ -95,7 +96,8 @@ work-needs clock duty (Ready c d e) x limits numbers ready ahead =
 
 work-window :
     (clock : ℕ) (duty : Duty) (row : Row)
-    → is-ready (row-after duty clock row Run) ≡ true → window-end (clock + 1) duty (row-after duty clock row Run) ≡ window-end clock duty row
+    → is-ready (row-after duty clock row Run) ≡ true
+    → window-end (clock + 1) duty (row-after duty clock row Run) ≡ window-end clock duty row
 work-window clock duty (Idle e) ready = absurd (both-ways false refl ready)
 work-window clock duty (Ready c d e) ready =
     ⊎-elim
@@ -339,9 +341,10 @@ slackless-doomed table ok clock rows i inside keeping safe slackless =
       ends = refl;
       short = λ x from to.
           let at : clock + (x - clock) ≡ x = omega arith in
-          let most : (x - clock) - demand-at (clock + 1) table rows i x ≤ row-slack (clock + 1) clock table rows i =
-          rw at at (greatest-above (spare (clock + 1) clock table rows i) (window (clock + 1) clock table rows i) (x - clock) (omega arith)) in
-          omega arith;
+          let row-spare = spare (clock + 1) clock table rows i in
+          let most = greatest-above row-spare (window (clock + 1) clock table rows i) (x - clock) (omega arith) in
+          let none : row-spare (x - clock) < 1 = omega arith in
+          omega (arith, rw at at none);
     }
 
 -- Where a tick can be spared, the table's slack is at least 1.

@@ -29,7 +29,8 @@ module _ (table : List Duty) (ok : admitted table ≡ true) where
       → kept (s′ .clock) table (s′ .rows) ≡ true
   turn-kept true s who s′ due (n, had, spent, rows-stay) clock-rises keeps =
       rw (rows-stay, clock-rises)
-      (spare-tick-keeps table ok (s .clock) (s .rows) keeps (leb-true 1 (slack-of table s) (and-parts (waits (s .queue)) (leb 1 (slack-of table s)) due .1)))
+      (spare-tick-keeps table ok (s .clock) (s .rows) keeps
+      (leb-true 1 (slack-of table s) (and-parts (waits (s .queue)) (leb 1 (slack-of table s)) due .1)))
   turn-kept false s who s′ due (had, rows-are, queue-stays) clock-rises keeps =
       rw (rows-are, clock-rises) (duty-tick-keeps table ok (s .clock) (s .rows) keeps)
 
