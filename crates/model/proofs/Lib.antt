@@ -18,3 +18,4 @@ pub mod Sparing
 pub mod Stepping
 pub mod Sums
 pub mod Ticks
+pub mod Timely
