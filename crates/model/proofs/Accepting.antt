@@ -1,17 +1,17 @@
 -- Every accepted call to a row keeps what a running machine keeps: no row needs more after it, and no window ends
 -- sooner.
-use Prim.Native.Nat.{ℕ, zero, suc, _+_, _-_, _*_, pred, max, _≤_, _<_}
+use Prim.Native.Nat.{ℕ, pred, _≤_, _<_}
 use mathlib.Core.Path.{_≡_, refl}
 use mathlib.Core.Bool.{Bool, true, false, cond}
 use mathlib.Core.List.{List, [], _∷_}
 use mathlib.Core.Logic.{⊎-elim}
 use native.Mathlib.Omega.{arith}
 use lib.Dec.{leb, ltb}
-use lib.ListN.{length, take, set, length-set}
+use lib.ListN.{length, set, length-set}
 use Rattle.std.proofs.shelf.Lists.{getD-set-same, getD-set-other}
-use Rattle.std.proofs.shelf.Tests.{cases-bool, cases-eq, cond-both, cond-true, cond-false, ltb-true, ltb-false, leb-true, leb-false}
+use Rattle.std.proofs.shelf.Tests.{cases-bool, cases-eq, cond-both, ltb-true, ltb-false, leb-false}
 use Rattle.model.specs.Kept.{kept}
-use Rattle.model.specs.Machine.{released, row-refusal, row-after, call-refusal, rows-after}
+use Rattle.model.specs.Machine.{row-refusal, row-after, call-refusal, rows-after}
 use Rattle.model.specs.Reckoning.{need, window-end, row-at, no-row}
 use Rattle.model.specs.Table.{admitted, duty-at}
 use Rattle.model.specs.declared.duties.Duty.{Duty}
@@ -21,11 +21,11 @@ use Rattle.model.specs.declared.rows.RowCall.{RowCall}
 use Rattle.model.specs.declared.rows.RowCall.the-variants.{Release, Done, Run}
 use Rattle.model.proofs.Admitted.{Limits, admitted-limits}
 use Rattle.model.proofs.Demand.{need-released, need-done, need-run}
-use Rattle.model.proofs.Keeping.{Row-numbers, Numbers, Met, Covered, Keeping, kept-gives, kept-from}
-use Rattle.model.proofs.Sums.{sum-le, need-at, demand-is-sum}
+use Rattle.model.proofs.Keeping.{Row-numbers, Numbers, end-at, Keeping, kept-gives, kept-from}
+use Rattle.model.proofs.Sums.{need-at, demand-le}
 
 -- A cond that is [] where its first way is not: the test failed.
-pub second-way : (b : Bool) (n : ℕ) → cond b (n ∷ []) [] ≡ [] → b ≡ false
+second-way : (b : Bool) (n : ℕ) → cond b (n ∷ []) [] ≡ [] → b ≡ false
 second-way true n h = absurd (let z : _≡_ {A = ℕ} 0 1 = cc in omega arith)
 second-way false n h = refl
 
@@ -101,60 +101,76 @@ at-set P rows k row short new others i =
     (λ other. rw (getD-set-other rows k i row no-row other) (others i other))
     (cases-eq i k)
 
-module _ (table : List Duty) (ok : admitted table ≡ true) where
-  -- The window of each row is open.
-  pub window-open : (clock : ℕ) (rows : List Row) → Keeping clock table rows → (i : ℕ) → i < length table → clock < window-end clock (duty-at table i) (row-at rows i)
-  window-open clock rows keeping i short = let (x, ahead, (inside, met)) = keeping .cover i short in omega arith
+-- The window of each row of a kept table is open.
+pub window-open :
+    (clock : ℕ) (table : List Duty) (rows : List Row)
+    → Keeping clock table rows → (i : ℕ) → i < length table → clock < end-at clock table rows i
+window-open clock table rows keeping i inside = let (x, ahead, (before-end, met)) = keeping .cover i inside in omega arith
 
-  -- A row that is set to one that eases it keeps the invariant.
-  pub eased-keeps :
-      (clock : ℕ) (rows : List Row) (k : ℕ) (row : Row)
-      → Keeping clock table rows
-      → k < length rows
-      → Eased clock (duty-at table k) (row-at rows k) row
-      → Keeping clock table (set rows k row)
-  eased-keeps clock rows k row keeping short eased =
-      let same : length (set rows k row) ≡ length table = omega (arith, length-set rows k row, keeping .numbers .same-length) in
+-- A table one of whose rows is set to one that eases it.
+module _
+    (clock : ℕ) (table : List Duty) (rows : List Row) (k : ℕ) (row : Row)
+    (there : k < length rows) (eased : Eased clock (duty-at table k) (row-at rows k) row) where
+  -- Each row's numbers stay kept,
+  pub eased-numbers : Numbers clock table rows → Numbers clock table (set rows k row)
+  eased-numbers numbers =
       record {
-        numbers = record {
-          same-length = same;
-          each = at-set (λ i r. i < length table → Row-numbers clock (duty-at table i) r) rows k row short
-              (λ _. eased .numbers) (λ i other. keeping .numbers .each i);
-        };
-        cover = λ i inside-table.
-            let (x, ahead, (inside, met)) = keeping .cover i inside-table in
-            let needs : (j : ℕ) → need clock (duty-at table j) (row-at (set rows k row) j) x ≤ need clock (duty-at table j) (row-at rows j) x =
-            at-set (λ j r. need clock (duty-at table j) r x ≤ need clock (duty-at table j) (row-at rows j) x) rows k row short
-            (eased .needs x ahead) (λ j other. omega arith) in
-            let ends : window-end clock (duty-at table i) (row-at rows i) ≤ window-end clock (duty-at table i) (row-at (set rows k row) i) =
-            at-set (λ j r. window-end clock (duty-at table j) (row-at rows j) ≤ window-end clock (duty-at table j) r) rows k row short
-            (eased .ends) (λ j other. omega arith) i in
-            let less = sum-le (need-at clock table (set rows k row) x) (need-at clock table rows x) (suc i) (λ j h. needs j) in (
-              x,
-              ahead,
-              (
-                omega arith,
-                omega (
-                  arith,
-                  less,
-                  demand-is-sum clock x (suc i) table rows inside-table (omega (arith, keeping .numbers .same-length)),
-                  demand-is-sum clock x (suc i) table (set rows k row) inside-table (omega arith),
-                ),
-              ),
-            );
+        same-length = omega (arith, length-set rows k row, numbers .same-length);
+        each =
+            at-set (λ i r. i < length table → Row-numbers clock (duty-at table i) r) rows k row there
+            (λ _. eased .numbers) (λ i other. numbers .each i);
       }
 
-  -- Every accepted call to a row keeps the invariant at the same clock.
-  pub call-keeps :
-      (clock : ℕ) (rows : List Row) (k : ℕ) (call : RowCall)
-      → kept clock table rows ≡ true
-      → call-refusal clock rows k call ≡ []
-      → kept clock table (rows-after table clock rows k call) ≡ true
-  call-keeps clock rows k call keeps accepted =
-      let keeping = kept-gives clock table rows keeps in
-      let (short, willing) = call-accepted clock rows k call accepted in
-      let inside : k < length table = omega (arith, keeping .numbers .same-length) in
-      kept-from clock table (rows-after table clock rows k call)
-      (eased-keeps clock rows k (row-after (duty-at table k) clock (row-at rows k) call) keeping short
-      (row-call-eases clock (duty-at table k) (row-at rows k) call (admitted-limits table ok k inside)
-      (keeping .numbers .each k inside) (window-open clock rows keeping k inside) willing))
+  -- no row needs more, and no window ends sooner,
+  pub eased-need : (x : ℕ) → clock < x → (j : ℕ) → need-at clock table (set rows k row) x j ≤ need-at clock table rows x j
+  eased-need x ahead =
+      at-set (λ j r. need clock (duty-at table j) r x ≤ need-at clock table rows x j) rows k row there
+      (eased .needs x ahead) (λ j other. omega arith)
+
+  pub eased-end : (j : ℕ) → end-at clock table rows j ≤ end-at clock table (set rows k row) j
+  eased-end =
+      at-set (λ j r. end-at clock table rows j ≤ window-end clock (duty-at table j) r) rows k row there
+      (eased .ends) (λ j other. omega arith)
+
+  -- so all rows stay covered.
+  eased-keeps : Keeping clock table rows → Keeping clock table (set rows k row)
+  eased-keeps keeping =
+      let later = eased-numbers (keeping .numbers) in
+      record {
+        numbers = later;
+        cover = λ i inside.
+            let (x, ahead, (before-end, met)) = keeping .cover i inside in
+            let no-more =
+            demand-le table i inside clock clock x rows (set rows k row) (keeping .numbers .same-length) (later .same-length)
+            (λ j h. eased-need x ahead j) in
+            (x, ahead, (omega (arith, eased-end i), omega arith));
+      }
+
+-- An accepted call to row k of a kept table eases the row,
+pub call-eases :
+    (table : List Duty)
+    → admitted table ≡ true
+    → (clock : ℕ) (rows : List Row) (k : ℕ) (call : RowCall)
+    → Keeping clock table rows
+    → k < length rows
+    → row-refusal clock (row-at rows k) call ≡ []
+    → Eased clock (duty-at table k) (row-at rows k) (row-after (duty-at table k) clock (row-at rows k) call)
+call-eases table ok clock rows k call keeping there willing =
+    let inside : k < length table = omega (arith, keeping .numbers .same-length) in
+    row-call-eases clock (duty-at table k) (row-at rows k) call
+    (admitted-limits table ok k inside) (keeping .numbers .each k inside) (window-open clock table rows keeping k inside) willing
+
+-- and keeps the invariant at the same clock.
+pub call-keeps :
+    (table : List Duty)
+    → admitted table ≡ true
+    → (clock : ℕ) (rows : List Row) (k : ℕ) (call : RowCall)
+    → kept clock table rows ≡ true
+    → call-refusal clock rows k call ≡ []
+    → kept clock table (rows-after table clock rows k call) ≡ true
+call-keeps table ok clock rows k call keeps accepted =
+    let keeping = kept-gives clock table rows keeps in
+    let (there, willing) = call-accepted clock rows k call accepted in
+    kept-from clock table (rows-after table clock rows k call)
+    (eased-keeps clock table rows k (row-after (duty-at table k) clock (row-at rows k) call) there
+    (call-eases table ok clock rows k call keeping there willing) keeping)

@@ -1,6 +1,6 @@
 -- Accounts: no unit of an errand is lost or made up. Each call changes the units of one number at most, by what its
 -- answer says.
-use Prim.Native.Nat.{ℕ, zero, suc, _+_, pred, _≤_, _<_}
+use Prim.Native.Nat.{ℕ, _+_, pred, _≤_}
 use mathlib.Core.Path.{_≡_, refl, sym, ap, _∙_}
 use mathlib.Core.Bool.{Bool, true, false, cond, not, _&&_}
 use mathlib.Core.List.{List, [], _∷_}
@@ -11,7 +11,8 @@ use Rattle.std.specs.Options.{isSome}
 use Rattle.std.specs.declared.option.Option.{Option}
 use Rattle.std.specs.declared.option.Option.the-variants.{Some, None}
 use Rattle.std.specs.declared.result.Result.the-variants.{Ok, Err}
-use Rattle.std.proofs.shelf.Tests.{cases-bool, cases-eq, and-parts, leb-true, leb-false, eq-eqb, ne-eqb, cond-true, cond-false}
+use Rattle.std.proofs.shelf.Tests.{cases-bool, cases-eq, and-parts, leb-true, eq-eqb, ne-eqb, cond-true, cond-false}
+use Rattle.std.proofs.shelf.Ways.{tells}
 use Rattle.model.specs.Machine.{State, Step, Turn, errand-due, duty-turn}
 use Rattle.model.specs.Promise.{Accounts}
 use Rattle.model.specs.Queues.{Meaning, Sound, Changes, look, units-in, errand-within, distinct, one-less, put-refusal}
@@ -32,7 +33,7 @@ abbrev units-of : Option Errand → ℕ
 units-of None = 0
 units-of (Some e) = e .units
 
-pub units-looked-up : (es : List Errand) (n : ℕ) → units-in es n ≡ units-of (look es n)
+units-looked-up : (es : List Errand) (n : ℕ) → units-in es n ≡ units-of (look es n)
 units-looked-up es n = go (look es n) refl
   where
     go : (o : Option Errand) → look es n ≡ o → units-in es n ≡ units-of o
@@ -40,21 +41,18 @@ units-looked-up es n = go (look es n) refl
     go (Some x) e = rw (e, units-in)
 
 -- An errand that waits has a unit left.
-pub waiting-some : (es : List Errand) (n : ℕ) (e : Errand) → distinct es ≡ true → look es n ≡ Some e → 1 ≤ e .units
+waiting-some : (es : List Errand) (n : ℕ) (e : Errand) → distinct es ≡ true → look es n ≡ Some e → 1 ≤ e .units
 waiting-some [] n e apart found = absurd (let z : _≡_ {A = ℕ} 0 1 = cc in omega arith)
 waiting-some (first ∷ es) n e apart found =
     let (own, rest) = and-parts (errand-within first && not (isSome (look es (first .number)))) (distinct es) apart in
-    let (within, alone) = and-parts (errand-within first) (not (isSome (look es (first .number)))) own in
-    let (units, worth) = and-parts (leb 1 (first .units) && leb (first .units) 4096) (leb (first .worth) 65535) within in
-    let (some, few) = and-parts (leb 1 (first .units)) (leb (first .units) 4096) units in
+    let some : 1 ≤ first .units = grind (arith, tells) in
     ⊎-elim
-    (λ here. let same : first ≡ e = cc (cond-true (eqb (first .number) n) (Some first) (look es n) here) in
-    rw (← same) (leb-true 1 (first .units) some))
+    (λ here. let same : first ≡ e = cc (cond-true (eqb (first .number) n) (Some first) (look es n) here) in rw (← same) some)
     (λ below. waiting-some es n e rest (sym (cond-false (eqb (first .number) n) (Some first) (look es n) below) ∙ found))
     (cases-bool (eqb (first .number) n))
 
 -- One unit less is one unit less.
-pub units-one-less : (e : Errand) → 1 ≤ e .units → e .units ≡ 1 + units-of (one-less e)
+units-one-less : (e : Errand) → 1 ≤ e .units → e .units ≡ 1 + units-of (one-less e)
 units-one-less e some =
     ⊎-elim
     (λ (last : leb (e .units) 1 ≡ true). rw (last, cond) (omega (arith, leb-true (e .units) 1 last)))
@@ -62,7 +60,7 @@ units-one-less e some =
     (cases-bool (leb (e .units) 1))
 
 -- Where the number k alone changed, by `more` units in and `fewer` units out, every number's units are accounted for.
-pub changed-units :
+changed-units :
     (m : Meaning) (k : ℕ) (found : Option Errand) (m′ : Meaning) (more fewer : ℕ)
     → Changes m k found m′
     → units-in (m .waiting) k + more ≡ fewer + units-of found
@@ -85,9 +83,9 @@ cond-none true = refl
 cond-none false = refl
 
 -- What a call with its answer does to the units of each number.
-pub record Balanced (m : Meaning) (call : Call) (answer : Answer) (m′ : Meaning) : Type 0 where
-  pub sound : Sound m′
-  pub balance :
+record Balanced (m : Meaning) (call : Call) (answer : Answer) (m′ : Meaning) : Type 0 where
+  sound : Sound m′
+  balance :
       (n : ℕ)
       → units-in (m .waiting) n + cond (was-accepted answer) (asked-for n call) 0
       ≡ of-tick (errand-had n) answer + cond (is-withdraw n call) (given-back answer) 0 + units-in (m′ .waiting) n
@@ -130,7 +128,7 @@ module _ (table : List Duty) where
   turn-balanced false s slack who s′ (had, rows-are, queue-stays) sound =
       rw (had, queue-stays) (record { sound = sound; balance = λ n. omega (arith, none-served (s .rows) n) })
 
-  pub step-balanced :
+  step-balanced :
       (s : State) (call : Call) (answer : Answer) (s′ : State)
       → Step table s call answer s′ → Sound (s .queue) → Balanced (s .queue) call answer (s′ .queue)
   step-balanced s (Release i) answer s′ (Ok x, answered, (accepted, rows-are, clock-stays, queue-stays)) sound =

@@ -1,30 +1,29 @@
 -- Deadlines, read off the list of calls and answers: a job is followed from its release on, and as long as it has
 -- neither had all its ticks nor been called done its row has it, so that the clock lies before its deadline.
-use Prim.Native.Nat.{ℕ, zero, suc, _+_, _*_, pred, _≤_, _<_}
+use Prim.Native.Nat.{ℕ, _+_, pred, _≤_, _<_}
 use mathlib.Core.Path.{_≡_, refl, sym, ap, _∙_}
 use mathlib.Core.Bool.{Bool, true, false, cond, _&&_}
 use mathlib.Core.List.{List, [], _∷_, _++_}
 use mathlib.Core.Logic.{_⊎_, inl, inr, ⊎-elim}
 use native.Mathlib.Omega.{arith}
 use lib.Dec.{leb, eqb}
-use lib.ListN.{length, set}
-use Rattle.std.specs.declared.option.Option.the-variants.{Some, None}
+use lib.ListN.{length}
 use Rattle.std.specs.declared.result.Result.the-variants.{Ok, Err}
 use Rattle.std.proofs.shelf.Lists.{getD-set-same, getD-set-other}
-use Rattle.std.proofs.shelf.Tests.{cases-bool, cases-lt, cases-eq, both-ways, and-left, and-right, eqb-true, eqb-false, eq-eqb, ne-eqb, leb-true, cond-true, cond-false}
+use Rattle.std.proofs.shelf.Tests.{cases-bool, cases-eq, and-left, and-right, eq-eqb, ne-eqb, leb-true, cond-true, cond-false}
 use Rattle.model.specs.Kept.{kept}
-use Rattle.model.specs.Machine.{State, Step, Turn, released, row-after, rows-after, call-refusal, errand-due, duty-turn, duty-tick, first-ready, fresh}
-use Rattle.model.specs.Promise.{Deadlines, Finished}
+use Rattle.model.specs.Machine.{State, Step, Turn, released, row-after, rows-after, call-refusal, errand-due, duty-turn, duty-tick, fresh}
+use Rattle.model.specs.Promise.{Deadlines}
 use Rattle.model.specs.Queues.{Meaning}
 use Rattle.model.specs.Reckoning.{row-at, no-row}
 use Rattle.model.specs.Runs.{Run, stay, step, Trace, was-accepted, of-tick, anyone, row-had, is-release, is-done, ticks, row-ticks, dones, until-release}
 use Rattle.model.specs.Table.{admitted, duty-at}
 use Rattle.model.specs.declared.calls.Answer.{Answer}
-use Rattle.model.specs.declared.calls.Answer.the-variants.{Accepted, Ticked, Refused}
+use Rattle.model.specs.declared.calls.Answer.the-variants.{Accepted, Ticked}
 use Rattle.model.specs.declared.calls.Call.{Call}
 use Rattle.model.specs.declared.calls.Call.the-variants.{Release, Done, Request, Withdraw, Slack, Tick}
 use Rattle.model.specs.declared.calls.Who.{Who}
-use Rattle.model.specs.declared.calls.Who.the-variants.{Nobody, Duty as For-duty, Errand as For-errand}
+use Rattle.model.specs.declared.calls.Who.the-variants.{Duty as For-duty}
 use Rattle.model.specs.declared.duties.Duty.{Duty}
 use Rattle.model.specs.declared.rows.Row.{Row}
 use Rattle.model.specs.declared.rows.Row.the-variants.{Idle, Ready}
@@ -33,11 +32,10 @@ use Rattle.model.specs.declared.rows.RowCall.the-variants.{Release as Row-rele
 use Rattle.model.proofs.Accepting.{call-accepted, release-allowed}
 use Rattle.model.proofs.Admitted.{admitted-limits}
 use Rattle.model.proofs.Covering.{fresh-kept}
-use Rattle.model.proofs.Futures.{ready-inside, kept-before-due}
 use Rattle.model.proofs.Keeping.{kept-gives}
-use Rattle.model.proofs.Searches.{Is-least}
 use Rattle.model.proofs.Stepping.{step-kept, run-kept, run-split, run-first}
 use Rattle.model.proofs.Ticks.{turn-cases}
+use Rattle.model.proofs.Timely.{ready-inside, kept-before-due}
 
 -- The clock of a state is that of the state before, raised by the ticks that were accepted.
 pub step-clock :
@@ -56,22 +54,26 @@ step-clock table s Tick answer s′ (Ok told, answered, (room, slack-is, clock-r
 step-clock table s Tick answer s′ (Err why, answered, (ended, refused, same)) = rw (same, answered) (omega arith)
 
 -- Whatever a row was, a release gives it the new job.
-pub release-after : (duty : Duty) (clock : ℕ) (row : Row) → row-after duty clock row Row-release ≡ released duty clock
+release-after : (duty : Duty) (clock : ℕ) (row : Row) → row-after duty clock row Row-release ≡ released duty clock
 release-after duty clock (Idle e) = refl
 release-after duty clock (Ready c d e) = refl
 
 -- What a call with its answer makes of row i's job with c units left, deadline d and next release e: it had all its
 -- ticks, or was called done, or the row still has it with no fewer units left than those not had.
-abbrev pub Goes-on : ℕ → ℕ → ℕ → ℕ → Call → Answer → State → Type 0
+abbrev Goes-on : ℕ → ℕ → ℕ → ℕ → Call → Answer → State → Type 0
 Goes-on i c d e call answer s′ =
     (c ≤ of-tick (row-had i) answer)
     ⊎ ((1 ≤ cond (is-done i call && was-accepted answer) 1 0)
     ⊎ ((c′ : ℕ) × (row-at (s′ .rows) i ≡ Ready c′ d e) × (c ≤ of-tick (row-had i) answer + c′)))
 
 -- The job is followed through one call: its row is not released again.
-pub record Followed (i c d e : ℕ) (call : Call) (answer : Answer) (s′ : State) : Type 0 where
-  pub not-released : (is-release i call && was-accepted answer) ≡ false
-  pub goes-on : Goes-on i c d e call answer s′
+record Followed (i c d e : ℕ) (call : Call) (answer : Answer) (s′ : State) : Type 0 where
+  not-released : (is-release i call && was-accepted answer) ≡ false
+  goes-on : Goes-on i c d e call answer s′
+
+-- Row j after a call to it.
+abbrev row-then : List Duty → State → ℕ → RowCall → Row
+row-then table s j call = row-after (duty-at table j) (s .clock) (row-at (s .rows) j) call
 
 -- A call that is no accepted release of row i and leaves the row as it is.
 left-alone :
@@ -92,15 +94,19 @@ module _ (table : List Duty) (ok : admitted table ≡ true) (i c d e : ℕ) wher
       let keeping = kept-gives (s .clock) table (s .rows) keeps in
       let within : i < length table = omega (arith, keeping .numbers .same-length) in
       let early = release-allowed (s .clock) e (rw (same, at) at willing) in
-      let before = kept-before-due table ok (s .clock) (s .rows) keeps i c d e at in
+      let before = kept-before-due (s .clock) table (s .rows) keeps i c d e at in
       let numbers = rw at at (keeping .numbers .each i within) in
       omega (arith, admitted-limits table ok i within, numbers)
 
   -- A row other than the one called is as it was.
   other-row :
-      (s s′ : State) (j : ℕ) (row : Row)
-      → s′ .rows ≡ set (s .rows) j row → (j ≡ i → ⊥) → row-at (s .rows) i ≡ Ready c d e → row-at (s′ .rows) i ≡ Ready c d e
-  other-row s s′ j row rows-are other at = rw rows-are (getD-set-other (s .rows) j i row no-row (λ same. other (sym same)) ∙ at)
+      (s s′ : State) (j : ℕ) (call : RowCall)
+      → s′ .rows ≡ rows-after table (s .clock) (s .rows) j call
+      → (j ≡ i → ⊥)
+      → row-at (s .rows) i ≡ Ready c d e
+      → row-at (s′ .rows) i ≡ Ready c d e
+  other-row s s′ j call rows-are other at =
+      rw rows-are (getD-set-other (s .rows) j i (row-then table s j call) no-row (λ same. other (sym same)) ∙ at)
 
   -- Row i itself has the tick.
   followed-work :
@@ -113,7 +119,7 @@ module _ (table : List Duty) (ok : admitted table ≡ true) (i c d e : ℕ) wher
       let had : row-had i who ≡ 1 = rw who-had (cond-true (eqb i i) 1 0 (eq-eqb i i refl)) in
       let now : row-at (s′ .rows) i ≡ row-after (duty-at table i) (s .clock) (Ready c d e) Row-run =
       rw rows-are
-      (getD-set-same (s .rows) i (row-after (duty-at table i) (s .clock) (row-at (s .rows) i) Row-run) no-row (ready-inside (s .rows) i c d e at)
+      (getD-set-same (s .rows) i (row-then table s i Row-run) no-row (ready-inside (s .rows) i c d e at)
       ∙ ap (λ row. row-after (duty-at table i) (s .clock) row Row-run) at) in
       record {
         not-released = refl;
@@ -136,12 +142,12 @@ module _ (table : List Duty) (ok : admitted table ≡ true) (i c d e : ℕ) wher
       let who-had : who ≡ For-duty k = rw (found, duty-turn) at had in
       ⊎-elim
       (λ same. followed-work s slack who s′ (rw same at who-had) (rw same at rows-then) at)
-      (λ other. left-alone i c d e Tick (Ticked slack who) s′ refl (other-row s s′ k (row-after (duty-at table k) (s .clock) (row-at (s .rows) k) Row-run) rows-then other at))
+      (λ other. left-alone i c d e Tick (Ticked slack who) s′ refl (other-row s s′ k Row-run rows-then other at))
       (cases-eq k i))
       (turn-cases (s .rows))
 
   -- The job is followed through any call.
-  pub followed :
+  followed :
       (s : State) (call : Call) (answer : Answer) (s′ : State)
       → Step table s call answer s′
       → kept (s .clock) table (s .rows) ≡ true
@@ -151,7 +157,7 @@ module _ (table : List Duty) (ok : admitted table ≡ true) (i c d e : ℕ) wher
       let other = released-other s j keeps at accepted in
       left-alone i c d e (Release j) answer s′
       (and-left (eqb j i) (was-accepted answer) (ne-eqb j i other))
-      (other-row s s′ j (row-after (duty-at table j) (s .clock) (row-at (s .rows) j) Row-release) rows-are other at)
+      (other-row s s′ j Row-release rows-are other at)
   followed s (Release j) answer s′ (Err why, answered, (refused, same)) keeps at =
       left-alone i c d e (Release j) answer s′ (and-right (eqb j i) (was-accepted answer) (rw answered)) (rw same at)
   followed s (Done j) answer s′ (Ok x, answered, (accepted, rows-are, clock-stays, queue-stays)) keeps at =
@@ -161,7 +167,7 @@ module _ (table : List Duty) (ok : admitted table ≡ true) (i c d e : ℕ) wher
         goes-on = inr (inl (rw (answered, eq-eqb j i same) (omega arith)));
       })
       (λ other. left-alone i c d e (Done j) answer s′ refl
-      (other-row s s′ j (row-after (duty-at table j) (s .clock) (row-at (s .rows) j) Row-done) rows-are other at))
+      (other-row s s′ j Row-done rows-are other at))
       (cases-eq j i)
   followed s (Done j) answer s′ (Err why, answered, (refused, same)) keeps at = left-alone i c d e (Done j) answer s′ refl (rw same at)
   followed s (Request errand) answer s′ (r, answered, (put, (clock-stays, rows-stay))) keeps at =
@@ -184,7 +190,7 @@ module _ (table : List Duty) (ok : admitted table ≡ true) where
       → d ≤ s .clock + ticks trace
       → (c ≤ row-ticks i (until-release i trace)) ⊎ (1 ≤ dones i (until-release i trace))
   job-finishes s trace end i c d e stay keeps at reached =
-      absurd (omega (arith, kept-before-due table ok (s .clock) (s .rows) keeps i c d e at))
+      absurd (omega (arith, kept-before-due (s .clock) table (s .rows) keeps i c d e at))
   job-finishes s trace end i c d e (step {s′ = s′} {call = call} {answer = answer} {rest = rest} one more) keeps at reached =
       let following = followed table ok i c d e s call answer s′ one keeps at in
       rw (following .not-released, until-release)
@@ -208,7 +214,7 @@ module _ (table : List Duty) (ok : admitted table ≡ true) where
   released-now s s′ i (Ok x, answered, (accepted, rows-are, clock-stays, queue-stays)) = (
     clock-stays,
     rw rows-are
-        (getD-set-same (s .rows) i (row-after (duty-at table i) (s .clock) (row-at (s .rows) i) Row-release) no-row
+        (getD-set-same (s .rows) i (row-then table s i Row-release) no-row
         (call-accepted (s .clock) (s .rows) i Row-release accepted .0)
         ∙ release-after (duty-at table i) (s .clock) (row-at (s .rows) i)),
   )
@@ -221,5 +227,6 @@ module _ (table : List Duty) (ok : admitted table ≡ true) where
       let (mid, job, last) = run-split table s′ during after end following in
       let (clock-stays, at) = released-now s s′ i release in
       let keeps = run-kept table ok (fresh table m) before s first (fresh-kept table ok) in
-      job-finishes s′ during mid i (duty-at table i .cost) (s .clock + duty-at table i .deadline) (s .clock + duty-at table i .separation) job
+      let duty = duty-at table i in
+      job-finishes s′ during mid i (duty .cost) (s .clock + duty .deadline) (s .clock + duty .separation) job
       (step-kept table ok s (Release i) Accepted s′ release keeps) at (omega arith)

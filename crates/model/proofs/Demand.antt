@@ -1,13 +1,12 @@
 -- What one row needs up to a clock, before and after each thing that can happen to it.
-use Prim.Native.Nat.{ℕ, zero, suc, _+_, _-_, _*_, pred, max, _≤_, _<_}
-use mathlib.Core.Path.{_≡_, refl}
-use mathlib.Core.Logic.{⊎-elim}
+use Prim.Native.Nat.{ℕ, _+_, _-_, _*_, pred, max, _≤_, _<_}
+use mathlib.Core.Path.{_≡_}
 use native.Mathlib.Nat.{mul-le-mul-left}
 use native.Mathlib.Omega.{arith}
 use lib.Dec.{leb}
-use Rattle.std.proofs.shelf.Tests.{cases-lt, cond-both, leb-true, leb-false}
+use Rattle.std.proofs.shelf.Tests.{cond-both, leb-true}
 use Rattle.model.specs.Machine.{released, row-after}
-use Rattle.model.specs.Reckoning.{need, next-release}
+use Rattle.model.specs.Reckoning.{need}
 use Rattle.model.specs.Table.{ceil}
 use Rattle.model.specs.declared.duties.Duty.{Duty}
 use Rattle.model.specs.declared.rows.Row.{Row}

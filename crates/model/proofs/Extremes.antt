@@ -1,5 +1,5 @@
 -- The greatest and the lowest value of a function, and the slack of a table as the lowest of its rows'.
-use Prim.Native.Nat.{ℕ, zero, suc, _+_, max, min, _≤_, _<_}
+use Prim.Native.Nat.{ℕ, zero, suc, _≤_, _<_}
 use mathlib.Core.Path.{_≡_, refl}
 use mathlib.Core.List.{List, [], _∷_}
 use mathlib.Core.Logic.{⊎-elim}

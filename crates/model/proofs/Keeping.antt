@@ -1,14 +1,13 @@
 -- The kept invariant as facts about each row, in place of tests: proofs take it apart and put it together here.
-use Prim.Native.Nat.{ℕ, zero, suc, _+_, _-_, max, _≤_, _<_}
+use Prim.Native.Nat.{ℕ, zero, suc, _+_, _-_, _≤_, _<_}
 use mathlib.Core.Path.{_≡_, refl}
-use mathlib.Core.Bool.{Bool, true, false, _&&_}
+use mathlib.Core.Bool.{true}
 use mathlib.Core.List.{List, [], _∷_}
 use mathlib.Core.Logic.{⊎-elim}
 use native.Mathlib.Omega.{arith}
-use lib.Dec.{leb, eqb}
-use lib.ListN.{length, take}
-use Rattle.std.specs.Options.{isSome}
-use Rattle.std.proofs.shelf.Tests.{and-parts, and-from, leb-true, le-leb, eqb-true, eq-eqb, cases-order}
+use lib.ListN.{length}
+use Rattle.std.proofs.shelf.Tests.{and-parts, and-from, leb-true, le-leb, cases-order}
+use Rattle.std.proofs.shelf.Ways.{tells}
 use Rattle.model.specs.Kept.{row-kept, rows-kept, covers, covered, all-covered, kept}
 use Rattle.model.specs.Reckoning.{demand-at, window, window-end, row-at}
 use Rattle.model.specs.Table.{duty-at}
@@ -26,23 +25,11 @@ Row-numbers clock duty (Ready c d e) =
 pub row-kept-gives : (clock : ℕ) (duty : Duty) (row : Row) → row-kept clock duty row ≡ true → Row-numbers clock duty row
 row-kept-gives clock duty (Idle e) h = leb-true e (clock + duty .separation) h
 row-kept-gives clock duty (Ready c d e) h =
-    let (rest, near) = and-parts (leb 1 c && leb c (duty .cost) && eqb (d + duty .separation) (e + duty .deadline)) (leb e (clock + duty .separation)) h in
-    let (units, apart) = and-parts (leb 1 c && leb c (duty .cost)) (eqb (d + duty .separation) (e + duty .deadline)) rest in
-    let (some, few) = and-parts (leb 1 c) (leb c (duty .cost)) units in (
-      leb-true 1 c some,
-      leb-true c (duty .cost) few,
-      eqb-true (d + duty .separation) (e + duty .deadline) apart,
-      leb-true e (clock + duty .separation) near,
-    )
+    (grind (arith, tells), grind (arith, tells), grind (arith, tells), grind (arith, tells))
 
 pub row-kept-from : (clock : ℕ) (duty : Duty) (row : Row) → Row-numbers clock duty row → row-kept clock duty row ≡ true
 row-kept-from clock duty (Idle e) h = le-leb e (clock + duty .separation) h
-row-kept-from clock duty (Ready c d e) h =
-    and-from (leb 1 c && leb c (duty .cost) && eqb (d + duty .separation) (e + duty .deadline)) (leb e (clock + duty .separation))
-    (and-from (leb 1 c && leb c (duty .cost)) (eqb (d + duty .separation) (e + duty .deadline))
-    (and-from (leb 1 c) (leb c (duty .cost)) (le-leb 1 c (h .0)) (le-leb c (duty .cost) (h .1)))
-    (eq-eqb (d + duty .separation) (e + duty .deadline) (h .2)))
-    (le-leb e (clock + duty .separation) (h .3))
+row-kept-from clock duty (Ready c d e) h = grind (arith, tells)
 
 -- There is a state for each row, with its numbers kept.
 pub record Numbers (clock : ℕ) (table : List Duty) (rows : List Row) : Type 0 where
@@ -71,10 +58,13 @@ rows-kept-from clock (duty ∷ table) (row ∷ rows) h =
     (rows-kept-from clock table rows
     (record { same-length = omega (arith, h .same-length); each = λ i short. h .each (suc i) (omega arith) }))
 
+-- The clock at which row i's window ends.
+abbrev pub end-at : ℕ → List Duty → List Row → ℕ → ℕ
+end-at from table rows i = window-end from (duty-at table i) (row-at rows i)
+
 -- By the clock x, within row i's window, the demand of row i up to x can be met from the clock `from` on.
 abbrev pub Met : ℕ → List Duty → List Row → ℕ → ℕ → Type 0
-Met from table rows i x =
-    (x ≤ window-end from (duty-at table i) (row-at rows i)) × (demand-at from table rows i x + from ≤ x)
+Met from table rows i x = (x ≤ end-at from table rows i) × (demand-at from table rows i x + from ≤ x)
 
 -- Row i is covered: its demand can be met by some clock that lies ahead.
 abbrev pub Covered : ℕ → List Duty → List Row → ℕ → Type 0

@@ -1,23 +1,21 @@
 -- The worked-out run, step by step, and the future that misses.
-use Prim.Native.Nat.{ℕ, zero, suc, _+_, _≤_, _<_}
+use Prim.Native.Nat.{ℕ, suc}
 use mathlib.Core.Path.{_≡_, refl, sym, _∙_}
-use mathlib.Core.Bool.{Bool, true, false, cond}
-use mathlib.Core.List.{List, [], _∷_}
+use mathlib.Core.Bool.{true}
+use mathlib.Core.List.{[], _∷_}
 use native.Mathlib.Omega.{arith}
-use lib.Dec.{eqb, lit≤, lit<}
-use Rattle.std.specs.declared.option.Option.{Option}
+use lib.Dec.{eqb}
 use Rattle.std.specs.declared.option.Option.the-variants.{Some, None}
 use Rattle.std.specs.declared.result.Result.the-variants.{Ok, Err}
 use Rattle.std.proofs.shelf.Tests.{ne-eqb, cond-false}
 use Rattle.model.specs.Machine.{State, Step, fresh}
-use Rattle.model.specs.MachineExamples.{Machine-examples, three-duties, errand-7, empty-queue, holding, worked-out, worked-out-end, without-slack, missing, clock-alone}
+use Rattle.model.specs.MachineExamples.{Machine-examples, three-duties, errand-7, empty-queue, holding, worked-out, worked-out-end, without-slack, clock-alone}
 use Rattle.model.specs.Queues.{Meaning, Sound, Changes, look, distinct, one-less}
-use Rattle.model.specs.Runs.{Run, stay, step, Trace}
+use Rattle.model.specs.Runs.{Run, stay, step}
 use Rattle.model.specs.Table.{ceil}
 use Rattle.model.specs.declared.calls.Answer.{Answer}
 use Rattle.model.specs.declared.calls.Call.the-variants.{Tick}
 use Rattle.model.specs.declared.calls.Who.the-variants.{Duty as For-duty, Errand as For-errand}
-use Rattle.model.specs.declared.errands.Errand.{Errand}
 use Rattle.model.specs.declared.refusals.Refusal.the-variants.{NoSuchRow, TooSoon, RowIdle, NotWaiting}
 use Rattle.model.specs.declared.rows.Row.{Row}
 use Rattle.model.specs.declared.rows.Row.the-variants.{Idle, Ready}

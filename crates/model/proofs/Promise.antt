@@ -1,7 +1,6 @@
 -- The run promise: deadlines, spare ticks and accounts of every run, together.
-use mathlib.Core.Path.{_≡_}
 use Rattle.model.specs.Machine.{fresh}
-use Rattle.model.specs.Promise.{Promise, Every-run-keeps-the-promise}
+use Rattle.model.specs.Promise.{Every-run-keeps-the-promise}
 use Rattle.model.proofs.Accounts.{accounts-kept}
 use Rattle.model.proofs.Deadlines.{deadlines-kept}
 use Rattle.model.proofs.Sparing.{ticks-spared}

@@ -1,7 +1,7 @@
 -- Spare ticks: a tick before which an errand waited went to an errand exactly when no lawful future misses.
-use Prim.Native.Nat.{ℕ, _+_, _≤_, _<_}
-use mathlib.Core.Path.{_≡_, refl, sym, ap, _∙_}
-use mathlib.Core.Bool.{Bool, true, false, _&&_}
+use Prim.Native.Nat.{ℕ, _+_, _<_}
+use mathlib.Core.Path.{_≡_, refl, ap, _∙_}
+use mathlib.Core.Bool.{Bool, true, false}
 use mathlib.Core.List.{List}
 use mathlib.Core.Logic.{⊎-elim}
 use native.Mathlib.Omega.{arith}
@@ -18,7 +18,6 @@ use Rattle.model.specs.Table.{admitted}
 use Rattle.model.specs.declared.calls.Answer.the-variants.{Ticked}
 use Rattle.model.specs.declared.calls.Call.the-variants.{Tick}
 use Rattle.model.specs.declared.calls.Who.{Who}
-use Rattle.model.specs.declared.calls.Who.the-variants.{Errand as For-errand}
 use Rattle.model.specs.declared.duties.Duty.{Duty}
 use Rattle.model.specs.declared.rows.Row.{Row}
 use Rattle.model.proofs.Covering.{fresh-kept}
@@ -28,7 +27,7 @@ use Rattle.model.proofs.Stepping.{run-kept}
 use Rattle.model.proofs.Ticks.{turn-cases}
 
 -- A tick that goes as if no errand waited answers no errand.
-pub no-errand : (rows : List Row) → is-errand (duty-turn rows) ≡ false
+no-errand : (rows : List Row) → is-errand (duty-turn rows) ≡ false
 no-errand rows =
     ⊎-elim
     (λ (none, idle). rw (none, duty-turn))

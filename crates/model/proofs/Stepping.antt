@@ -1,10 +1,8 @@
 -- Every step of the machine keeps the invariant, and so does every run.
-use Prim.Native.Nat.{ℕ, _+_, _≤_, _<_}
-use mathlib.Core.Path.{_≡_, refl, sym}
-use mathlib.Core.Bool.{Bool, true, false, _&&_}
+use Prim.Native.Nat.{_+_}
+use mathlib.Core.Path.{_≡_, refl}
+use mathlib.Core.Bool.{Bool, true, false}
 use mathlib.Core.List.{List, [], _∷_, _++_}
-use mathlib.Core.Logic.{⊎-elim}
-use native.Mathlib.Omega.{arith}
 use lib.Dec.{leb}
 use Rattle.std.specs.declared.result.Result.the-variants.{Ok, Err}
 use Rattle.std.proofs.shelf.Tests.{and-parts, leb-true}
@@ -31,7 +29,8 @@ module _ (table : List Duty) (ok : admitted table ≡ true) where
       → kept (s′ .clock) table (s′ .rows) ≡ true
   turn-kept true s who s′ due (n, had, spent, rows-stay) clock-rises keeps =
       rw (rows-stay, clock-rises)
-      (spare-tick-keeps table ok (s .clock) (s .rows) keeps (leb-true 1 (slack-of table s) (and-parts (waits (s .queue)) (leb 1 (slack-of table s)) due .1)))
+      (spare-tick-keeps table ok (s .clock) (s .rows) keeps
+      (leb-true 1 (slack-of table s) (and-parts (waits (s .queue)) (leb 1 (slack-of table s)) due .1)))
   turn-kept false s who s′ due (had, rows-are, queue-stays) clock-rises keeps =
       rw (rows-are, clock-rises) (duty-tick-keeps table ok (s .clock) (s .rows) keeps)
 

@@ -1,5 +1,6 @@
 -- What holds of a running machine at all times: the kept invariant, from the start through every step, and what it
--- means. No row's slack is below 0, no job is overdue, and slack says exactly whether a tick can be spared.
+-- means. No row's slack is below 0, no job is overdue, no window is longer than 8,192 ticks, and the slack is at least
+-- 1 exactly where a tick can be spared.
 use Prim.Native.Nat.{ℕ, _+_, _≤_, _<_}
 use mathlib.Core.Path.{_≡_}
 use mathlib.Core.Bool.{true, false}
@@ -9,6 +10,7 @@ use Rattle.model.specs.Futures.{overdue, Safe}
 use Rattle.model.specs.Kept.{kept, Slack-not-below-0}
 use Rattle.model.specs.Machine.{State, Step, fresh, slack-of}
 use Rattle.model.specs.Queues.{Meaning}
+use Rattle.model.specs.Reckoning.{window}
 use Rattle.model.specs.Runs.{Run, Trace}
 use Rattle.model.specs.Table.{admitted}
 use Rattle.model.specs.declared.calls.Answer.{Answer}
@@ -29,6 +31,12 @@ pub record Always (table : List Duty) : Type 0 where
   pub no-slack-below-0 :
       (s : State) → Keeps table s → (i : ℕ) → i < length table → Slack-not-below-0 (s .clock) table (s .rows) i
   pub none-overdue : (s : State) → Keeps table s → overdue (s .clock) (s .rows) ≡ false
+  pub windows-short :
+      (s : State)
+      → Keeps table s
+      → (i : ℕ)
+      → i < length table
+      → window (s .clock + 1) (s .clock) table (s .rows) i ≤ 8192
   pub slack-spares : (s : State) → Keeps table s → 1 ≤ slack-of table s → Safe table (s .clock + 1) (s .rows)
   pub safe-has-slack : (s : State) → Keeps table s → Safe table (s .clock + 1) (s .rows) → 1 ≤ slack-of table s
 

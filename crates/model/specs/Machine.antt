@@ -3,7 +3,7 @@
 -- the state before, its answer and the state after.
 use Prim.Native.Nat.{ℕ, pred, _+_, _≤_, _<_}
 use mathlib.Core.Path.{_≡_}
-use mathlib.Core.Bool.{Bool, true, false, cond, not, _&&_}
+use mathlib.Core.Bool.{Bool, true, false, cond, _&&_}
 use mathlib.Core.List.{List, [], _∷_}
 use lib.ListN.{length, set, replicate}
 use lib.Dec.{leb, ltb}
@@ -13,7 +13,7 @@ use Rattle.std.specs.declared.result.Result.{Result}
 use Rattle.std.specs.declared.result.Result.the-variants.{Ok, Err}
 use Rattle.model.specs.Queues.{Meaning, Put, Spend, Take}
 use Rattle.model.specs.Reckoning.{row-at, table-slack}
-use Rattle.model.specs.Refusals.{told, refusal}
+use Rattle.model.specs.Refusals.{told}
 use Rattle.model.specs.Searches.{least}
 use Rattle.model.specs.Table.{duty-at}
 use Rattle.model.specs.declared.calls.Answer.{Answer}

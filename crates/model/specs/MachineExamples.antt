@@ -5,7 +5,6 @@ use Prim.Native.Nat.{ℕ, _+_}
 use mathlib.Core.Path.{_≡_}
 use mathlib.Core.Bool.{true}
 use mathlib.Core.List.{List, [], _∷_}
-use Rattle.std.specs.declared.option.Option.{Option}
 use Rattle.std.specs.declared.option.Option.the-variants.{Some, None}
 use Rattle.model.specs.Futures.{Move, release, tick, Lawful, misses}
 use Rattle.model.specs.Machine.{State, Step, fresh, slack-of}
@@ -19,7 +18,6 @@ use Rattle.model.specs.declared.calls.Who.the-variants.{Duty as For-duty, Erra
 use Rattle.model.specs.declared.duties.Duty.{Duty}
 use Rattle.model.specs.declared.errands.Errand.{Errand}
 use Rattle.model.specs.declared.refusals.Refusal.the-variants.{NoSuchRow, TooSoon, RowIdle, NotWaiting}
-use Rattle.model.specs.declared.rows.Row.{Row}
 use Rattle.model.specs.declared.rows.Row.the-variants.{Idle, Ready}
 
 -- Three duties of cost, deadline and separation 1, 4, 4 and 2, 6, 6 and 3, 12, 12.

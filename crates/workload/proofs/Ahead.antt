@@ -9,7 +9,7 @@ use lib.Dec.{leb}
 use lib.ListN.{length, getD, take}
 use Rattle.std.proofs.shelf.Tests.{and-from, and-parts, le-leb, leb-true}
 use Rattle.model.proofs.Admitted.{Limits, admitted-limits, limits-of}
-use Rattle.model.proofs.Futures.{kept-before-due}
+use Rattle.model.proofs.Timely.{kept-before-due}
 use Rattle.model.proofs.Keeping.{Row-numbers, kept-gives, row-kept-from, row-kept-gives}
 use Rattle.model.specs.Kept.{kept, row-kept}
 use Rattle.model.specs.Reckoning.{demand, left-of, need, next-release, row-at, window-end}
