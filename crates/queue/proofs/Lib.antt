@@ -1,1 +1,3 @@
+mod Changing
+mod Lookups
 mod Rates

@@ -1,8 +1,11 @@
 // Queues of errands: what every queue answers, and two queues over handed slots.
+mod arrivals;
+mod lines;
 mod queues;
 mod ratings;
 mod slots;
 
+pub use arrivals::FirstCome;
+pub use arrivals::FirstComeQueue;
 pub use queues::Queue;
-pub use ratings::Rating;
 pub use slots::Slot;
