@@ -51,7 +51,7 @@ look-placed-same before s (x ∷ xs) none =
     (λ ys. look (errands ys) (s .errand .number) ≡ Some (s .errand))
     (λ _. look-first (s .errand) (errands (x ∷ xs)))
     (λ _. none-past (x .errand) (errands (placed before s xs)) _ (none-apart (x .errand) (errands xs) _ none)
-       ∙ look-placed-same before s xs (none-behind (x .errand) (errands xs) _ none))
+    ∙ look-placed-same before s xs (none-behind (x .errand) (errands xs) _ none))
 
 pub placed-once : (before : Slot → Slot → Bool) (s : Slot) (xs : List Slot) → errand-within (s .errand) ≡ true →
     look (errands xs) (s .errand .number) ≡ None → distinct (errands xs) ≡ true →
@@ -63,12 +63,12 @@ placed-once before s (x ∷ xs) within none once =
     cond-both (before s x) (s ∷ x ∷ xs) (x ∷ placed before s xs) (λ ys. distinct (errands ys) ≡ true)
     (λ _. once-more (s .errand) (errands (x ∷ xs)) (record { within = within; alone = none; rest = once }))
     (λ _.
-       once-more (x .errand) (errands (placed before s xs))
-       (record {
-          within = f .within;
-          alone = look-placed-other before s xs (x .errand .number) apart ∙ f .alone;
-          rest = placed-once before s xs within (none-behind (x .errand) (errands xs) _ none) (f .rest)
-        }))
+    once-more (x .errand) (errands (placed before s xs))
+    (record {
+      within = f .within;
+      alone = look-placed-other before s xs (x .errand .number) apart ∙ f .alone;
+      rest = placed-once before s xs within (none-behind (x .errand) (errands xs) _ none) (f .rest);
+    }))
 
 -- Removed
 pub removed-none : (es : List Errand) (i k : ℕ) → look es k ≡ None → look (removed es i) k ≡ None

@@ -1,3 +1,6 @@
+mod Arriving
+mod Calling
 mod Changing
 mod Lookups
+mod Meanings
 mod Rates

@@ -7,7 +7,12 @@ use native.Mathlib.Omega.{arith}
 pub rates-chain : (xw xu yw yu zw zu : ℕ) → 0 < yu → xw * yu ≤ yw * xu → yw * zu ≤ zw * yu → xw * zu ≤ zw * xu
 rates-chain xw xu yw yu zw zu some h k =
     let scaled : xw * zu * yu ≤ zw * xu * yu =
-      omega
-      (arith, mul-le-mul-right zu h, mul-le-mul-right xu k, mul-right-comm xw zu yu, mul-right-comm yw xu zu,
-       mul-right-comm zw yu xu) in
+    omega (
+      arith,
+      mul-le-mul-right zu h,
+      mul-le-mul-right xu k,
+      mul-right-comm xw zu yu,
+      mul-right-comm yw xu zu,
+      mul-right-comm zw yu xu,
+    ) in
     le-of-mul-le-mul-right scaled some

@@ -1,3 +1,4 @@
+pub mod Arrivals
 pub mod Lines
 pub mod Ratings
 pub mod Slots

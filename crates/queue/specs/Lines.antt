@@ -3,7 +3,7 @@ use Prim.Native.Nat.{ℕ, suc, _-_}
 use native.Mathlib.Omega.{arith}
 use denote.Ref.{now}
 use mathlib.Core.Path.{_≡_, refl, ap}
-use mathlib.Core.Bool.{Bool, true, cond, _&&_}
+use mathlib.Core.Bool.{Bool, true, cond}
 use mathlib.Core.List.{List, [], _∷_, map}
 use lib.Dec.{leb, eqb}
 use lib.ListN.{length, length-take, length-map}
@@ -62,11 +62,6 @@ abbrev pub without : ℕ → List Slot → List Slot
 without n [] = []
 without n (s ∷ ss) = cond (eqb (s .errand .number) n) ss (s ∷ without n ss)
 
--- Every slot is rated alike: no worth for one unit.
-abbrev pub level : List Slot → Bool
-level [] = true
-level (s ∷ ss) = eqb (s .rating .worth) 0 && eqb (s .rating .units) 1 && level ss
-
 -- What a line means is sound if no number is in it twice.
 first-named : (es : List Errand) → names-right es (first-number es) ≡ true
 first-named [] = refl
@@ -77,5 +72,5 @@ line-sound l once =
     record {
       each-once = once;
       few = omega (arith, length-map (held l) (λ s. s .errand), length-take (l .count) (now (l .slots)));
-      names = first-named (errands (held l))
+      names = first-named (errands (held l));
     }

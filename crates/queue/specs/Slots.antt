@@ -27,5 +27,5 @@ abbrev pub with-units : Slot → ℕ → Slot
 with-units s units =
     record {
       errand = record { number = s .errand .number; units = units; worth = s .errand .worth };
-      rating = s .rating
+      rating = s .rating;
     }

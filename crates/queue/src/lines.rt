@@ -5,12 +5,11 @@ ghost use Rattle.model.specs.Queues.{errand-within, distinct, Put, Spend, Take}
 ghost use Rattle.list.specs.Held.{held};
 ghost use Rattle.list.specs.Order.{sorted};
 ghost use Rattle.queue.specs.Lines.{errands, line-meaning, place-of, first-number, ranks, spent, without, LinesUp};
-
+use super::slots::Slot;
+use super::slots::SlotRanked;
 use list::OrderedList;
 use model::Errand;
 use model::Refusal;
-use super::slots::Slot;
-use super::slots::SlotRanked;
 
 // A queue has at most so many places.
 const MOST_PLACES: usize = 1024;

@@ -1,6 +1,5 @@
 ghost use mathlib.Core.Path.{_≡_};
 ghost use Rattle.model.specs.Queues.{Meaning, Sound, Put, Spend, Take};
-
 use model::Errand;
 use model::Refusal;
 

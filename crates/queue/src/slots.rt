@@ -2,11 +2,10 @@ ghost use mathlib.Core.Path.{_≡_};
 ghost use Rattle.model.specs.Queues.{errand-within};
 ghost use Rattle.queue.specs.Ratings.{outrates};
 ghost use Rattle.queue.specs.Slots.{Made, with-units};
-
+use super::ratings::Rating;
 use list::Ranked;
 use model::Errand;
 use model::Refusal;
-use super::ratings::Rating;
 
 // A place of a queue: the errand, with its units left, and its rating, which stays as it was when it was put.
 #[derive(Clone, Copy)]
@@ -33,7 +32,14 @@ fn within_limits(errand: &Errand) -> bool
 impl Slot {
     // A slot that nothing waits in yet.
     pub fn free() -> Slot {
-        Slot { errand: Errand { number: 0, units: 1, worth: 0 }, rating: Rating::of(0, 1) }
+        Slot {
+            errand: Errand {
+                number: 0,
+                units: 1,
+                worth: 0,
+            },
+            rating: Rating::of(0, 1),
+        }
     }
 
     // A slot for an errand that is rated as every other.
@@ -43,7 +49,10 @@ impl Slot {
         if !within_limits(&errand) {
             return Err(Refusal::ErrandLimits);
         }
-        Ok(Slot { errand, rating: Rating::of(0, 1) })
+        Ok(Slot {
+            errand,
+            rating: Rating::of(0, 1),
+        })
     }
 
     // A slot for an errand that is rated by its worth for its units.
@@ -53,7 +62,10 @@ impl Slot {
         if !within_limits(&errand) {
             return Err(Refusal::ErrandLimits);
         }
-        Ok(Slot { errand, rating: Rating::of(errand.worth, errand.units) })
+        Ok(Slot {
+            errand,
+            rating: Rating::of(errand.worth, errand.units),
+        })
     }
 
     // The errand, with its units left.
@@ -67,7 +79,14 @@ impl Slot {
     pub(crate) fn with_units(&self, units: u32) -> Slot
         ensures { λ r. ⌜ r ≡ with-units (now (self .entry)) units ⌝ }
     {
-        let errand = Errand { number: self.errand.number, units, worth: self.errand.worth };
-        Slot { errand, rating: self.rating }
+        let errand = Errand {
+            number: self.errand.number,
+            units,
+            worth: self.errand.worth,
+        };
+        Slot {
+            errand,
+            rating: self.rating,
+        }
     }
 }

@@ -1,7 +1,6 @@
 ghost use mathlib.Core.Path.{_≡_};
 ghost use Prim.Native.Nat.{_≤_};
 ghost use Rattle.queue.specs.Ratings.{outrates};
-
 use super::Rating;
 
 impl Rating {
@@ -18,6 +17,7 @@ impl Rating {
     pub fn outrates(&self, other: &Rating) -> bool
         ensures { λ r. ⌜ r ≡ outrates (now (self .entry)) (now (other .entry)) ⌝ }
     {
-        u64::from(self.worth) * u64::from(other.units) > u64::from(other.worth) * u64::from(self.units)
+        u64::from(self.worth) * u64::from(other.units)
+            > u64::from(other.worth) * u64::from(self.units)
     }
 }

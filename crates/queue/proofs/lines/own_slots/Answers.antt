@@ -1,5 +1,7 @@
-use Rattle.queue.proofs.Changing.{look-removed-same}
+use native.Mathlib.Omega.{arith}
+use Prim.Native.Nat.{_-_}
+use Rattle.queue.proofs.Lookups.{take-most}
 use Rattle.queue.proofs.lines.own_slots.Needs as need
 
 pub returns : need.returns
-returns c = ?
+returns c = take-most (c .args .slots .now) (c .min-most .result - 0) 1024 (omega arith)

@@ -7,4 +7,4 @@ pub chain-law : need.chain-law
 chain-law x y z h k =
     le-ltb _ _
     (rates-chain (x .rating .worth) (x .rating .units) (y .rating .worth) (y .rating .units) (z .rating .worth)
-     (z .rating .units) (y .rating .some) (ltb-false _ _ h) (ltb-false _ _ k))
+    (z .rating .units) (y .rating .some) (ltb-false _ _ h) (ltb-false _ _ k))
