@@ -2,3 +2,4 @@ pub mod Arrivals
 pub mod Lines
 pub mod Ratings
 pub mod Slots
+pub mod Worths
