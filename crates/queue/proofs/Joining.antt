@@ -4,7 +4,7 @@ use native.Mathlib.Omega.{arith}
 use mathlib.Core.Path.{_≡_, refl, sym, ap, subst, _∙_}
 use mathlib.Core.Logic.{⊎-elim}
 use mathlib.Core.Bool.{Bool, true, false, cond, _&&_}
-use mathlib.Core.List.{List, [], _∷_, _++_}
+use mathlib.Core.List.{List, [], _∷_, _++_, append-nil, append-assoc}
 use lib.Dec.{leb, eqb}
 use Rattle.std.specs.Finite.{nth}
 use Rattle.std.specs.Options.{isSome}
@@ -211,3 +211,25 @@ pub stands-take : (l m : OrderedList Slot) (n : ℕ) → distinct (errands (held
 stands-take l m n once is came stands =
     is ∙ without-is-gone n (held l) once ∙ ap (each-to (gone n)) stands
     ∙ each-joining (gone n) (gone-keeps n) [] came refl
+
+-- A line in order is that of its own slots, had they arrived in that order.
+not-before : (x s : Slot) (line rest : List Slot) → none-before ranks x (line ++ s ∷ rest) ≡ true → ranks s x ≡ false
+not-before x s [] rest h = not-true _ (and-parts _ _ h .0)
+not-before x s (y ∷ line) rest h = not-before x s line rest (and-parts _ _ h .1)
+
+placed-behind : (s : Slot) (line rest : List Slot) → sorted ranks (line ++ s ∷ rest) ≡ true →
+    placed ranks s line ≡ line ++ s ∷ []
+placed-behind s [] rest h = refl
+placed-behind s (x ∷ line) rest h =
+    let p = and-parts _ _ h in
+    cond-false _ _ _ (not-before x s line rest (p .0)) ∙ ap (λ ys. x ∷ ys) (placed-behind s line rest (p .1))
+
+joining-in-order : (line rest : List Slot) → sorted ranks (line ++ rest) ≡ true → joining line rest ≡ line ++ rest
+joining-in-order line [] h = sym (append-nil line)
+joining-in-order line (s ∷ rest) h =
+    let regroup = append-assoc line (s ∷ []) rest in
+    ap (λ ys. joining ys rest) (placed-behind s line rest h)
+    ∙ (joining-in-order (line ++ s ∷ []) rest (ap (sorted ranks) regroup ∙ h) ∙ regroup)
+
+pub stands-for-itself : (line : List Slot) → sorted ranks line ≡ true → Stands line line
+stands-for-itself line h = sym (joining-in-order [] line h)

@@ -32,7 +32,7 @@ impl<'a> ByWorth<'a> {
     }
 }
 
-// What each call does is said of every order of arrival that the line stands for.
+// What each call does is said of every order of arrival that the line can stand for; there is always one.
 pub impl<'a> Queue for ByWorth<'a> as ByWorthQueue {
     ghost meaning = { λ q. line-meaning (q .line) };
 
@@ -48,6 +48,7 @@ pub impl<'a> Queue for ByWorth<'a> as ByWorthQueue {
 
     fn name(&self) -> Option<u32>
         ensures means { λ r. ⌜ r ≡ line-meaning (now (self .entry) .line) .named ⌝ }
+        ensures some_order { λ _. ⌜ Stands (held (now (self .entry) .line)) (held (now (self .entry) .line)) ⌝ }
         ensures best { λ r. ⌜ ((came : List Place) → Stands came (held (now (self .entry) .line)) → r ≡ best came) ⌝ }
     {
         first_number(&self.line)
