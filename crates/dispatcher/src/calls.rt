@@ -1,0 +1,81 @@
+// The calls of a running dispatcher. Each answers and leaves what the machine's step says.
+ghost use mathlib.Core.Path.{_≡_};
+ghost use Rattle.model.specs.Machine.{Requested, Row-called, Ticks, Withdraws, fresh, slack-of};
+ghost use Rattle.model.specs.declared.rows.RowCall.the-variants.{Release, Done};
+ghost use Rattle.table.specs.Settings.{table-of};
+ghost use Rattle.dispatcher.specs.Views.{duties, view};
+use crate::dispatchers::Dispatcher;
+use model::Errand;
+use model::Refusal;
+use model::Who;
+use queue::Queue;
+use table::Setting;
+use workload::Turn;
+use workload::Workload;
+
+impl<Q: Queue> Dispatcher<Q> {
+    // Starts a setting over a queue, whatever the queue holds.
+    pub fn start(setting: Setting, queue: Q) -> Dispatcher<Q>
+        ensures state { λ r. ⌜ view meaning r ≡ fresh (table-of setting) (meaning queue) ⌝ }
+        ensures table { λ r. ⌜ duties r ≡ table-of setting ⌝ }
+    {
+        Dispatcher {
+            work: Workload::start(setting),
+            queue,
+        }
+    }
+
+    // Releases a job of a row.
+    pub fn release(&mut self, row: u32) -> Result<(), Refusal>
+        ensures step { λ r. ⌜ Row-called (duties (now (self .entry))) (view meaning (now (self .entry))) row Release r (view meaning (now (self .exit))) ⌝ }
+        ensures table { λ _. ⌜ duties (now (self .exit)) ≡ duties (now (self .entry)) ⌝ }
+    {
+        self.work.release(row)
+    }
+
+    // Ends the job of a row before it has had all its ticks.
+    pub fn done(&mut self, row: u32) -> Result<(), Refusal>
+        ensures step { λ r. ⌜ Row-called (duties (now (self .entry))) (view meaning (now (self .entry))) row Done r (view meaning (now (self .exit))) ⌝ }
+        ensures table { λ _. ⌜ duties (now (self .exit)) ≡ duties (now (self .entry)) ⌝ }
+    {
+        self.work.done(row)
+    }
+
+    // Has an errand wait.
+    pub fn request(&mut self, errand: Errand) -> Result<(), Refusal>
+        ensures step { λ r. ⌜ Requested (view meaning (now (self .entry))) errand r (view meaning (now (self .exit))) ⌝ }
+        ensures table { λ _. ⌜ duties (now (self .exit)) ≡ duties (now (self .entry)) ⌝ }
+    {
+        self.queue.put(errand)
+    }
+
+    // Drops an errand, and answers the units that it had left.
+    pub fn withdraw(&mut self, number: u32) -> Result<u32, Refusal>
+        ensures step { λ r. ⌜ Withdraws (view meaning (now (self .entry))) number r (view meaning (now (self .exit))) ⌝ }
+        ensures table { λ _. ⌜ duties (now (self .exit)) ≡ duties (now (self .entry)) ⌝ }
+    {
+        self.queue.take(number)
+    }
+
+    // The table's slack.
+    pub fn slack(&self) -> u32
+        ensures { λ r. ⌜ r ≡ slack-of (duties (now (self .entry))) (view meaning (now (self .entry))) ⌝ }
+    {
+        self.work.slack()
+    }
+
+    // One tick: the slack before it, and who had it.
+    pub fn tick(&mut self) -> Result<(u32, Who), Refusal>
+        ensures step { λ r. ⌜ Ticks (duties (now (self .entry))) (view meaning (now (self .entry))) r (view meaning (now (self .exit))) ⌝ }
+        ensures table { λ _. ⌜ duties (now (self .exit)) ≡ duties (now (self .entry)) ⌝ }
+    {
+        let errand_waits = self.queue.name().is_some();
+        let (slack, turn) = self.work.tick(errand_waits)?;
+        let who = match turn {
+            Turn::Nobody => Who::Nobody,
+            Turn::Duty(row) => Who::Duty(row),
+            Turn::Spare => Who::Errand(self.queue.spend().unwrap()),
+        };
+        Ok((slack, who))
+    }
+}
