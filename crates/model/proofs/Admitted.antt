@@ -21,7 +21,7 @@ pub record Limits (duty : Duty) : Type 0 where
   pub deadline-fits : duty .deadline ≤ duty .separation
   pub separation-fits : duty .separation ≤ 4096
 
-limits-of : (duty : Duty) → within-limits duty ≡ true → Limits duty
+pub limits-of : (duty : Duty) → within-limits duty ≡ true → Limits duty
 limits-of duty h =
     record {
       cost-some = grind (arith, tells);
@@ -30,7 +30,7 @@ limits-of duty h =
       separation-fits = grind (arith, tells);
     }
 
-all-within-at : (table : List Duty) → all-within table ≡ true → (i : ℕ) → i < length table → Limits (duty-at table i)
+pub all-within-at : (table : List Duty) → all-within table ≡ true → (i : ℕ) → i < length table → Limits (duty-at table i)
 all-within-at [] h i short = absurd (omega arith)
 all-within-at (duty ∷ table) h zero short = limits-of duty (and-parts (within-limits duty) (all-within table) h .0)
 all-within-at (duty ∷ table) h (suc i) short =

@@ -15,7 +15,7 @@ use Rattle.model.specs.declared.rows.RowCall.the-variants.{Run}
 use Rattle.model.proofs.Ceil.{ceil-none, ceil-mono, ceil-more}
 
 -- The jobs that can come before a clock ask for at least as much where they may come earlier or the clock is later.
-jobs-le : (duty : Duty) (v w : ℕ) → v ≤ w → duty .cost * ceil v (duty .separation) ≤ duty .cost * ceil w (duty .separation)
+pub jobs-le : (duty : Duty) (v w : ℕ) → v ≤ w → duty .cost * ceil v (duty .separation) ≤ duty .cost * ceil w (duty .separation)
 jobs-le duty v w h = mul-le-mul-left (duty .cost) (ceil-mono v w (duty .separation) h)
 
 -- A row needs no more where its idle rows may be released later.

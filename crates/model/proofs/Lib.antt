@@ -18,4 +18,3 @@ pub mod Sparing
 pub mod Stepping
 pub mod Sums
 pub mod Ticks
-pub mod Timely
