@@ -13,8 +13,11 @@ pub mod Keeping
 pub mod MachineExamples
 pub mod Missing
 pub mod Promise
+pub mod Responses
 pub mod Searches
+pub mod Slack
 pub mod Sparing
 pub mod Stepping
 pub mod Sums
 pub mod Ticks
+pub mod Told

@@ -1,5 +1,6 @@
 pub mod Always
 pub mod Futures
+pub mod Idle
 pub mod Kept
 pub mod Machine
 pub mod MachineExamples
@@ -7,6 +8,8 @@ pub mod Promise
 pub mod Queues
 pub mod Reckoning
 pub mod Refusals
+pub mod Responses
 pub mod Runs
 pub mod Searches
 pub mod Table
+pub mod Worked

@@ -5,6 +5,7 @@ mod errands;
 mod laws;
 mod refusals;
 mod rows;
+mod theorems;
 
 pub use calls::Answer;
 pub use calls::Call;
@@ -17,3 +18,7 @@ pub use laws::machine_examples;
 pub use refusals::Refusal;
 pub use rows::Row;
 pub use rows::RowCall;
+pub use theorems::response_is_least;
+pub use theorems::slack_is_greatest;
+pub use theorems::slack_is_idle_ticks;
+pub use theorems::worked_examples;
