@@ -30,7 +30,7 @@ limits-of duty h =
       separation-fits = grind (arith, tells);
     }
 
-pub all-within-at : (table : List Duty) → all-within table ≡ true → (i : ℕ) → i < length table → Limits (duty-at table i)
+all-within-at : (table : List Duty) → all-within table ≡ true → (i : ℕ) → i < length table → Limits (duty-at table i)
 all-within-at [] h i short = absurd (omega arith)
 all-within-at (duty ∷ table) h zero short = limits-of duty (and-parts (within-limits duty) (all-within table) h .0)
 all-within-at (duty ∷ table) h (suc i) short =

@@ -32,10 +32,10 @@ use Rattle.model.specs.declared.rows.RowCall.the-variants.{Release as Row-rele
 use Rattle.model.proofs.Accepting.{call-accepted, release-allowed}
 use Rattle.model.proofs.Admitted.{admitted-limits}
 use Rattle.model.proofs.Covering.{fresh-kept}
-use Rattle.model.proofs.Futures.{ready-inside, kept-before-due}
 use Rattle.model.proofs.Keeping.{kept-gives}
 use Rattle.model.proofs.Stepping.{step-clock, step-kept, run-kept, run-split, run-first}
 use Rattle.model.proofs.Ticks.{turn-cases}
+use Rattle.model.proofs.Timely.{ready-inside, kept-before-due}
 
 -- Whatever a row was, a release gives it the new job.
 release-after : (duty : Duty) (clock : ℕ) (row : Row) → row-after duty clock row Row-release ≡ released duty clock
@@ -78,7 +78,7 @@ module _ (table : List Duty) (ok : admitted table ≡ true) (i c d e : ℕ) wher
       let keeping = kept-gives (s .clock) table (s .rows) keeps in
       let within : i < length table = omega (arith, keeping .numbers .same-length) in
       let early = release-allowed (s .clock) e (rw (same, at) at willing) in
-      let before = kept-before-due table ok (s .clock) (s .rows) keeps i c d e at in
+      let before = kept-before-due (s .clock) table (s .rows) keeps i c d e at in
       let numbers = rw at at (keeping .numbers .each i within) in
       omega (arith, admitted-limits table ok i within, numbers)
 
@@ -174,7 +174,7 @@ module _ (table : List Duty) (ok : admitted table ≡ true) where
       → d ≤ s .clock + ticks trace
       → (c ≤ row-ticks i (until-release i trace)) ⊎ (1 ≤ dones i (until-release i trace))
   job-finishes s trace end i c d e stay keeps at reached =
-      absurd (omega (arith, kept-before-due table ok (s .clock) (s .rows) keeps i c d e at))
+      absurd (omega (arith, kept-before-due (s .clock) table (s .rows) keeps i c d e at))
   job-finishes s trace end i c d e (step {s′ = s′} {call = call} {answer = answer} {rest = rest} one more) keeps at reached =
       let following = followed table ok i c d e s call answer s′ one keeps at in
       rw (following .not-released, until-release)

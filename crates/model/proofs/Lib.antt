@@ -20,4 +20,5 @@ pub mod Sparing
 pub mod Stepping
 pub mod Sums
 pub mod Ticks
+pub mod Timely
 pub mod Told

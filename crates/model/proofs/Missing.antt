@@ -26,11 +26,11 @@ use Rattle.model.proofs.Admitted.{Limits, admitted-limits}
 use Rattle.model.proofs.Covering.{idle-needs-none}
 use Rattle.model.proofs.Demand.{need-idle-none, need-released, need-run-at-most}
 use Rattle.model.proofs.Extremes.{greatest-above, slackless-row}
-use Rattle.model.proofs.Futures.{row-overdue}
 use Rattle.model.proofs.Keeping.{Row-numbers, Numbers, end-at, Keeping, kept-gives}
 use Rattle.model.proofs.Searches.{Is-least}
 use Rattle.model.proofs.Sums.{need-at, demand-none, demand-le, demand-one-less}
 use Rattle.model.proofs.Ticks.{turn-cases, numbers-later, window-later, run-accepted}
+use Rattle.model.proofs.Timely.{row-overdue}
 
 -- What is safe stays safe through a lawful move.
 safe-release :

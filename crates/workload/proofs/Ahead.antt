@@ -9,7 +9,7 @@ use lib.Dec.{leb}
 use lib.ListN.{length, getD, take}
 use Rattle.std.proofs.shelf.Tests.{and-from, and-parts, le-leb, leb-true}
 use Rattle.model.proofs.Admitted.{Limits, admitted-limits, limits-of}
-use Rattle.model.proofs.Futures.{kept-before-due}
+use Rattle.model.proofs.Timely.{kept-before-due}
 use Rattle.model.proofs.Keeping.{Row-numbers, kept-gives, row-kept-from, row-kept-gives}
 use Rattle.model.specs.Kept.{kept, row-kept}
 use Rattle.model.specs.Reckoning.{demand, left-of, need, next-release, row-at, window-end}
@@ -41,7 +41,7 @@ module _ (clock : ℕ) (table : List Duty) (rows : List Row) (ok : admitted tabl
   release-lies i (Idle e) lt at = omega arith
   release-lies i (Ready c d e) lt at =
       let keeping = kept-gives clock table rows keeps in
-      let due = kept-before-due table ok clock rows keeps i c d e at in
+      let due = kept-before-due clock table rows keeps i c d e at in
       let apart : Row-numbers clock (duty-at table i) (Ready c d e) =
       subst (λ (r : Row). Row-numbers clock (duty-at table i) r) at (keeping .numbers .each i lt) in
       omega (arith, due, apart .2, admitted-limits table ok i lt .deadline-fits)
@@ -49,7 +49,7 @@ module _ (clock : ℕ) (table : List Duty) (rows : List Row) (ok : admitted tabl
   window-lies : (i : ℕ) (row : Row) → i < length table → row-at rows i ≡ row → clock ≤ window-end (clock + 1) (duty-at table i) row
   window-lies i (Idle e) lt at = omega arith
   window-lies i (Ready c d e) lt at =
-      omega (arith, kept-before-due table ok clock rows keeps i c d e at)
+      omega (arith, kept-before-due clock table rows keeps i c d e at)
 
   pub row-ahead : (i : ℕ) → i < length table → Row-ahead clock (duty-at table i) (row-at rows i)
   row-ahead i lt =

@@ -1,0 +1,4 @@
+mod Becoming
+mod Moves
+mod Places
+pub mod Sorting

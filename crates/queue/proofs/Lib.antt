@@ -1,0 +1,7 @@
+mod Arriving
+mod Calling
+mod Changing
+mod Joining
+mod Lookups
+mod Meanings
+mod Rates

@@ -1,0 +1,5 @@
+pub mod Arrivals
+pub mod Lines
+pub mod Ratings
+pub mod Slots
+pub mod Worths
