@@ -1,7 +1,7 @@
 -- What the proofs know of a quotient rounded up: it is 0 at 0, it does not fall, and one more separation
 -- adds one. Nothing else opens its definition.
 use Prim.Native.Nat.{ℕ, zero, suc, _+_, _-_, _*_, _/_, _%_, _≤_, _<_}
-use mathlib.Core.Path.{_≡_, refl, ap, _∙_}
+use mathlib.Core.Path.{_≡_, ap, _∙_}
 use mathlib.Core.Logic.{⊎-elim}
 use native.Mathlib.Nat.{add-div-right, add-mul, div-add-mod, div-eq-of-lt, div-lt-iff-lt-mul, div-mul-le-self, div-zero, le-div-iff-mul-le, mod-lt, mul-comm, mul-le-mul-left, suc-mul, zero-mul}
 use native.Mathlib.Omega.{arith}

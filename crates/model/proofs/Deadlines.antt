@@ -16,7 +16,7 @@ use Rattle.model.specs.Machine.{State, Step, Turn, released, row-after, rows-a
 use Rattle.model.specs.Promise.{Deadlines}
 use Rattle.model.specs.Queues.{Meaning}
 use Rattle.model.specs.Reckoning.{row-at, no-row}
-use Rattle.model.specs.Runs.{Run, stay, step, Trace, was-accepted, of-tick, anyone, row-had, is-release, is-done, ticks, row-ticks, dones, until-release}
+use Rattle.model.specs.Runs.{Run, stay, step, Trace, was-accepted, of-tick, row-had, is-release, is-done, ticks, row-ticks, dones, until-release}
 use Rattle.model.specs.Table.{admitted, duty-at}
 use Rattle.model.specs.declared.calls.Answer.{Answer}
 use Rattle.model.specs.declared.calls.Answer.the-variants.{Accepted, Ticked}
@@ -33,25 +33,9 @@ use Rattle.model.proofs.Accepting.{call-accepted, release-allowed}
 use Rattle.model.proofs.Admitted.{admitted-limits}
 use Rattle.model.proofs.Covering.{fresh-kept}
 use Rattle.model.proofs.Keeping.{kept-gives}
-use Rattle.model.proofs.Stepping.{step-kept, run-kept, run-split, run-first}
+use Rattle.model.proofs.Stepping.{step-clock, step-kept, run-kept, run-split, run-first}
 use Rattle.model.proofs.Ticks.{turn-cases}
 use Rattle.model.proofs.Timely.{ready-inside, kept-before-due}
-
--- The clock of a state is that of the state before, raised by the ticks that were accepted.
-pub step-clock :
-    (table : List Duty) (s : State) (call : Call) (answer : Answer) (s′ : State)
-    → Step table s call answer s′ → s′ .clock ≡ s .clock + of-tick anyone answer
-step-clock table s (Release i) answer s′ (Ok x, answered, (accepted, rows-are, clock-stays, queue-stays)) = rw answered (omega arith)
-step-clock table s (Release i) answer s′ (Err why, answered, (refused, same)) = rw (same, answered) (omega arith)
-step-clock table s (Done i) answer s′ (Ok x, answered, (accepted, rows-are, clock-stays, queue-stays)) = rw answered (omega arith)
-step-clock table s (Done i) answer s′ (Err why, answered, (refused, same)) = rw (same, answered) (omega arith)
-step-clock table s (Request e) answer s′ (Ok x, answered, (put, (clock-stays, rows-stay))) = rw answered (omega arith)
-step-clock table s (Request e) answer s′ (Err why, answered, (put, (clock-stays, rows-stay))) = rw answered (omega arith)
-step-clock table s (Withdraw n) answer s′ (Ok x, answered, (taken, (clock-stays, rows-stay))) = rw answered (omega arith)
-step-clock table s (Withdraw n) answer s′ (Err why, answered, (taken, (clock-stays, rows-stay))) = rw answered (omega arith)
-step-clock table s Slack answer s′ (answered, same) = rw (same, answered) (omega arith)
-step-clock table s Tick answer s′ (Ok told, answered, (room, slack-is, clock-rises, turn)) = rw answered (omega arith)
-step-clock table s Tick answer s′ (Err why, answered, (ended, refused, same)) = rw (same, answered) (omega arith)
 
 -- Whatever a row was, a release gives it the new job.
 release-after : (duty : Duty) (clock : ℕ) (row : Row) → row-after duty clock row Row-release ≡ released duty clock

@@ -9,10 +9,11 @@ use Rattle.std.specs.declared.option.Option.the-variants.{Some, None}
 use Rattle.std.specs.declared.result.Result.the-variants.{Ok, Err}
 use Rattle.std.proofs.shelf.Tests.{ne-eqb, cond-false}
 use Rattle.model.specs.Machine.{State, Step, fresh}
-use Rattle.model.specs.MachineExamples.{Machine-examples, three-duties, errand-7, empty-queue, holding, worked-out, worked-out-end, without-slack, clock-alone}
+use Rattle.model.specs.MachineExamples.{Machine-examples, errand-7, empty-queue, holding, worked-out, worked-out-end, without-slack, clock-alone}
 use Rattle.model.specs.Queues.{Meaning, Sound, Changes, look, distinct, one-less}
 use Rattle.model.specs.Runs.{Run, stay, step}
 use Rattle.model.specs.Table.{ceil}
+use Rattle.model.specs.Worked.{three}
 use Rattle.model.specs.declared.calls.Answer.{Answer}
 use Rattle.model.specs.declared.calls.Call.the-variants.{Tick}
 use Rattle.model.specs.declared.calls.Who.the-variants.{Duty as For-duty, Errand as For-errand}
@@ -53,7 +54,7 @@ take-7 = record { here = refl; others = λ k other. sym (no-other 1 k other); pl
 abbrev at : ℕ → Row → Row → Row → Meaning → State
 at clock row-0 row-1 row-2 queue = record { clock = clock; rows = row-0 ∷ row-1 ∷ row-2 ∷ []; queue = queue }
 
-run-worked-out : Run three-duties (fresh three-duties empty-queue) worked-out worked-out-end
+run-worked-out : Run three (fresh three empty-queue) worked-out worked-out-end
 unfolding ceil
 run-worked-out =
     step {s′ = at 0 (Ready 1 4 4) (Idle 0) (Idle 0) empty-queue} (Ok tt, refl, (refl, refl, refl, refl))
@@ -81,7 +82,7 @@ run-worked-out =
     (step (Ok tt, refl, (refl, refl, refl, refl)) stay))))))))))))))))
 
 -- Whatever a tick answers there, it changes more than the clock: row 0 has it.
-no-idle-tick : (answer : Answer) → Step three-duties without-slack Tick answer (clock-alone without-slack) → ⊥
+no-idle-tick : (answer : Answer) → Step three without-slack Tick answer (clock-alone without-slack) → ⊥
 unfolding ceil
 no-idle-tick answer (Ok told, answered, (room, slack-is, clock-rises, (had, rows-are, queue-stays))) =
     let z : _≡_ {A = ℕ} 0 1 = cc in omega arith

@@ -1,14 +1,15 @@
--- Every step of the machine keeps the invariant, and so does every run.
+-- Steps and runs: every one keeps the invariant, and the clock counts the ticks that were accepted.
 use Prim.Native.Nat.{_+_}
 use mathlib.Core.Path.{_≡_, refl}
 use mathlib.Core.Bool.{Bool, true, false}
 use mathlib.Core.List.{List, [], _∷_, _++_}
+use native.Mathlib.Omega.{arith}
 use lib.Dec.{leb}
 use Rattle.std.specs.declared.result.Result.the-variants.{Ok, Err}
 use Rattle.std.proofs.shelf.Tests.{and-parts, leb-true}
 use Rattle.model.specs.Kept.{kept}
 use Rattle.model.specs.Machine.{State, Step, Turn, errand-due, slack-of, waits}
-use Rattle.model.specs.Runs.{Run, stay, step, Trace}
+use Rattle.model.specs.Runs.{Run, stay, step, Trace, of-tick, anyone, ticks}
 use Rattle.model.specs.Table.{admitted}
 use Rattle.model.specs.declared.calls.Answer.{Answer}
 use Rattle.model.specs.declared.calls.Call.{Call}
@@ -56,6 +57,28 @@ module _ (table : List Duty) (ok : admitted table ≡ true) where
   run-kept s trace end stay keeps = keeps
   run-kept s trace end (step {s′ = s′} {call = call} {answer = answer} {rest = rest} one more) keeps =
       run-kept s′ rest end more (step-kept s call answer s′ one keeps)
+
+-- The clock of a state is that of the state before, raised by the ticks that were accepted.
+pub step-clock :
+    (table : List Duty) (s : State) (call : Call) (answer : Answer) (s′ : State)
+    → Step table s call answer s′ → s′ .clock ≡ s .clock + of-tick anyone answer
+step-clock table s (Release i) answer s′ (Ok x, answered, (accepted, rows-are, clock-stays, queue-stays)) = rw answered (omega arith)
+step-clock table s (Release i) answer s′ (Err why, answered, (refused, same)) = rw (same, answered) (omega arith)
+step-clock table s (Done i) answer s′ (Ok x, answered, (accepted, rows-are, clock-stays, queue-stays)) = rw answered (omega arith)
+step-clock table s (Done i) answer s′ (Err why, answered, (refused, same)) = rw (same, answered) (omega arith)
+step-clock table s (Request e) answer s′ (Ok x, answered, (put, (clock-stays, rows-stay))) = rw answered (omega arith)
+step-clock table s (Request e) answer s′ (Err why, answered, (put, (clock-stays, rows-stay))) = rw answered (omega arith)
+step-clock table s (Withdraw n) answer s′ (Ok x, answered, (taken, (clock-stays, rows-stay))) = rw answered (omega arith)
+step-clock table s (Withdraw n) answer s′ (Err why, answered, (taken, (clock-stays, rows-stay))) = rw answered (omega arith)
+step-clock table s Slack answer s′ (answered, same) = rw (same, answered) (omega arith)
+step-clock table s Tick answer s′ (Ok told, answered, (room, slack-is, clock-rises, turn)) = rw answered (omega arith)
+step-clock table s Tick answer s′ (Err why, answered, (ended, refused, same)) = rw (same, answered) (omega arith)
+
+pub run-clock :
+    (table : List Duty) (s : State) (trace : Trace) (end : State) → Run table s trace end → end .clock ≡ s .clock + ticks trace
+run-clock table s trace end stay = omega arith
+run-clock table s trace end (step {s′ = s′} {call = call} {answer = answer} {rest = rest} one more) =
+    omega (arith, step-clock table s call answer s′ one, run-clock table s′ rest end more)
 
 -- A run over two lists of calls, one after the other, is a run over each.
 pub run-split :

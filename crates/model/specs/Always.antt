@@ -1,6 +1,6 @@
--- What holds of a running machine at all times: the kept invariant, from the start through every step, and what it
--- means. No row's slack is below 0, no job is overdue, no window is longer than 8,192 ticks, and the slack is at least
--- 1 exactly where a tick can be spared.
+-- What holds of a running machine at all times. It keeps its invariant, from the start through every step, so no row's
+-- slack is below 0, no job is overdue, no window is longer than 8,192 ticks, and the slack is at least 1 exactly where
+-- a tick can be spared. The clock counts the ticks that were accepted.
 use Prim.Native.Nat.{ℕ, _+_, _≤_, _<_}
 use mathlib.Core.Path.{_≡_}
 use mathlib.Core.Bool.{true, false}
@@ -11,7 +11,7 @@ use Rattle.model.specs.Kept.{kept, Slack-not-below-0}
 use Rattle.model.specs.Machine.{State, Step, fresh, slack-of}
 use Rattle.model.specs.Queues.{Meaning}
 use Rattle.model.specs.Reckoning.{window}
-use Rattle.model.specs.Runs.{Run, Trace}
+use Rattle.model.specs.Runs.{Run, Trace, ticks}
 use Rattle.model.specs.Table.{admitted}
 use Rattle.model.specs.declared.calls.Answer.{Answer}
 use Rattle.model.specs.declared.calls.Call.{Call}
@@ -28,6 +28,8 @@ pub record Always (table : List Duty) : Type 0 where
       (s : State) (call : Call) (answer : Answer) (s′ : State)
       → Step table s call answer s′ → Keeps table s → Keeps table s′
   pub in-every-run : (m : Meaning) (trace : Trace) (s : State) → Run table (fresh table m) trace s → Keeps table s
+  pub clock-counts-ticks :
+      (m : Meaning) (trace : Trace) (s : State) → Run table (fresh table m) trace s → s .clock ≡ ticks trace
   pub no-slack-below-0 :
       (s : State) → Keeps table s → (i : ℕ) → i < length table → Slack-not-below-0 (s .clock) table (s .rows) i
   pub none-overdue : (s : State) → Keeps table s → overdue (s .clock) (s .rows) ≡ false

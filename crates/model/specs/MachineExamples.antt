@@ -11,22 +11,14 @@ use Rattle.model.specs.Machine.{State, Step, fresh, slack-of}
 use Rattle.model.specs.Queues.{Meaning}
 use Rattle.model.specs.Runs.{Run, Trace}
 use Rattle.model.specs.Table.{admitted}
+use Rattle.model.specs.Worked.{three, all-released}
 use Rattle.model.specs.declared.calls.Answer.{Answer}
 use Rattle.model.specs.declared.calls.Answer.the-variants.{Accepted, Withdrawn, Slack as Slack-is, Ticked, Refused}
 use Rattle.model.specs.declared.calls.Call.the-variants.{Release, Done, Request, Withdraw, Slack, Tick}
 use Rattle.model.specs.declared.calls.Who.the-variants.{Duty as For-duty, Errand as For-errand}
-use Rattle.model.specs.declared.duties.Duty.{Duty}
 use Rattle.model.specs.declared.errands.Errand.{Errand}
 use Rattle.model.specs.declared.refusals.Refusal.the-variants.{NoSuchRow, TooSoon, RowIdle, NotWaiting}
 use Rattle.model.specs.declared.rows.Row.the-variants.{Idle, Ready}
-
--- Three duties of cost, deadline and separation 1, 4, 4 and 2, 6, 6 and 3, 12, 12.
-abbrev pub three-duties : List Duty
-three-duties =
-    record { cost = 1; deadline = 4; separation = 4 }
-    ∷ record { cost = 2; deadline = 6; separation = 6 }
-    ∷ record { cost = 3; deadline = 12; separation = 12 }
-    ∷ []
 
 -- Errand 7, worth 10, with some units left.
 abbrev pub errand-7 : ℕ → Errand
@@ -39,8 +31,9 @@ empty-queue = record { waiting = []; named = None; places = 64 }
 abbrev pub holding : ℕ → Meaning
 holding units = record { waiting = errand-7 units ∷ []; named = Some 7; places = 64 }
 
--- Every duty is released at the start and errand 7 requested with three units. Two ticks can be spared and go to the
--- errand; then the duties need each one. Row 0 is released again as soon as it may be, and not before.
+-- Over the three duties of cost, deadline and separation 1, 4, 4 and 2, 6, 6 and 3, 12, 12: each is released at the
+-- start, and errand 7 requested with three units. Two ticks can be spared and go to the errand; then the duties need
+-- each one. Row 0 is released again as soon as it may be, and not before.
 abbrev pub worked-out : Trace
 worked-out =
     (Release 0, Accepted)
@@ -68,7 +61,7 @@ worked-out-end = record { clock = 5; rows = Idle 8 ∷ Idle 6 ∷ Ready 3 12 12 
 
 -- and before its third tick: an errand waits, and there is no slack.
 abbrev pub without-slack : State
-without-slack = record { clock = 2; rows = Ready 1 4 4 ∷ Ready 2 6 6 ∷ Ready 3 12 12 ∷ []; queue = holding 1 }
+without-slack = record { clock = 2; rows = all-released; queue = holding 1 }
 
 -- Had the errand that tick too, row 1 could miss its deadline at 6: row 0 has the tick at 3, is released again at 4
 -- and has that tick, and one tick alone is left to row 1.
@@ -80,9 +73,9 @@ abbrev pub clock-alone : State → State
 clock-alone s = record { clock = s .clock + 1; rows = s .rows; queue = s .queue }
 
 pub record Machine-examples : Type 0 where
-  pub table-admitted : admitted three-duties ≡ true
-  pub run-worked-out : Run three-duties (fresh three-duties empty-queue) worked-out worked-out-end
-  pub no-slack : slack-of three-duties without-slack ≡ 0
-  pub missing-lawful : Lawful three-duties 3 (without-slack .rows) missing
-  pub missing-misses : misses three-duties 3 (without-slack .rows) missing ≡ true
-  pub no-idle-tick : (answer : Answer) → Step three-duties without-slack Tick answer (clock-alone without-slack) → ⊥
+  pub table-admitted : admitted three ≡ true
+  pub run-worked-out : Run three (fresh three empty-queue) worked-out worked-out-end
+  pub no-slack : slack-of three without-slack ≡ 0
+  pub missing-lawful : Lawful three 3 (without-slack .rows) missing
+  pub missing-misses : misses three 3 (without-slack .rows) missing ≡ true
+  pub no-idle-tick : (answer : Answer) → Step three without-slack Tick answer (clock-alone without-slack) → ⊥
