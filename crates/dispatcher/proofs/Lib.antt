@@ -1,1 +1,2 @@
+pub mod Scripted
 pub mod Turning

@@ -1,10 +1,12 @@
 // The calls of a running dispatcher. Each answers and leaves what the machine's step says.
 ghost use mathlib.Core.Path.{_≡_};
-ghost use Rattle.model.specs.Machine.{Requested, Row-called, Ticks, Withdraws, fresh, slack-of};
+ghost use Rattle.model.specs.Machine.{Requested, Row-called, Step, Ticks, Withdraws, fresh, plain-answer, slack-of};
 ghost use Rattle.model.specs.declared.rows.RowCall.the-variants.{Release, Done};
 ghost use Rattle.table.specs.Settings.{table-of};
 ghost use Rattle.dispatcher.specs.Views.{duties, view};
 use crate::dispatchers::Dispatcher;
+use model::Answer;
+use model::Call;
 use model::Errand;
 use model::Refusal;
 use model::Who;
@@ -77,5 +79,36 @@ impl<Q: Queue> Dispatcher<Q> {
             Turn::Spare => Who::Errand(self.queue.spend().unwrap()),
         };
         Ok((slack, who))
+    }
+
+    // Any of the six calls, with its answer.
+    pub fn carry_out(&mut self, call: Call) -> Answer
+        ensures step { λ r. ⌜ Step (duties (now (self .entry))) (view meaning (now (self .entry))) call r (view meaning (now (self .exit))) ⌝ }
+        ensures table { λ _. ⌜ duties (now (self .exit)) ≡ duties (now (self .entry)) ⌝ }
+    {
+        match call {
+            Call::Release(row) => plain(self.release(row)),
+            Call::Done(row) => plain(self.done(row)),
+            Call::Request(errand) => plain(self.request(errand)),
+            Call::Withdraw(number) => match self.withdraw(number) {
+                Ok(units) => Answer::Withdrawn(units),
+                Err(why) => Answer::Refused(why),
+            },
+            Call::Slack => Answer::Slack(self.slack()),
+            Call::Tick => match self.tick() {
+                Ok((slack, who)) => Answer::Ticked(slack, who),
+                Err(why) => Answer::Refused(why),
+            },
+        }
+    }
+}
+
+// The answer to a call that has nothing else to tell.
+fn plain(result: Result<(), Refusal>) -> Answer
+    ensures { λ r. ⌜ r ≡ plain-answer result ⌝ }
+{
+    match result {
+        Ok(()) => Answer::Accepted,
+        Err(why) => Answer::Refused(why),
     }
 }
