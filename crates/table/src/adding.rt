@@ -14,6 +14,9 @@ use crate::settings::Setting;
 use model::Duty;
 use model::Refusal;
 
+// A table has at most so many rows.
+const MOST_ROWS: usize = 16;
+
 // 1 ≤ cost ≤ deadline ≤ separation ≤ 4,096.
 fn within_limits(duty: Duty) -> bool
     ensures { λ r. ⌜ r ≡ within-limits duty ⌝ }
@@ -71,7 +74,7 @@ impl Setting {
         if !within_limits(duty) {
             return Err(Refusal::DutyLimits);
         }
-        if len >= 16 {
+        if len >= MOST_ROWS {
             return Err(Refusal::TableFull);
         }
         let duties = with_duty(&self.duties, len, place, duty);

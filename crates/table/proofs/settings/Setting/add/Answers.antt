@@ -28,8 +28,8 @@ returns-then-not-within-limits c =
     let refused = refused-limits table (c .args .place) (c .args .duty) near (sym (c .if-not-within-limits .ensures tt)) in
     record { answers = sym refused; leaves = sym (refused-leaves table (c .args .place) (c .args .duty) _ _ refused) }
 
-pub returns-then-len-ge16 : need.returns-then-len-ge16
-returns-then-len-ge16 c =
+pub returns-then-len-ge-MOST-ROWS : need.returns-then-len-ge-MOST-ROWS
+returns-then-len-ge-MOST-ROWS c =
     let table = table-of (c .args .self .now) in
     let near : c .args .place ≤ length table = omega (arith, c .args .self .now .counts) in
     let full : 16 ≤ length table = omega (arith, c .args .self .now .counts) in
