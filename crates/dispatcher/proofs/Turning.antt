@@ -8,15 +8,14 @@ use lib.Dec.{leb}
 use Rattle.std.specs.Options.{isSome}
 use Rattle.std.specs.declared.option.Option.{Option}
 use Rattle.std.specs.declared.option.Option.the-variants.{Some, None}
-use Rattle.std.proofs.shelf.Tests.{and-parts, both-ways}
-use Rattle.model.specs.Machine.{State, Turn as Machine-turn, duty-turn, errand-due, first-ready, slack-of, waits}
-use Rattle.model.specs.Queues.{Meaning, Sound, Spend, names-right}
-use Rattle.model.specs.declared.calls.Who.the-variants.{Nobody, Duty, Errand}
+use Rattle.std.proofs.shelf.Tests.{both-ways}
+use Rattle.model.specs.Machine.{State, Turn as Machine-turn, errand-due, first-ready, waits}
+use Rattle.model.specs.Queues.{Meaning, Sound, names-right}
+use Rattle.model.specs.declared.calls.Who.the-variants.{Nobody, Duty}
 use Rattle.model.specs.declared.errands.Errand.{Errand as Errand-type}
-use Rattle.model.specs.declared.rows.Row.{Row}
 use Rattle.workload.specs.Acts.{Turns, slack-in, turn-of}
 use Rattle.workload.specs.Workloads.{rows-in, table-in}
-use Rattle.workload.specs.declared.turns.Turn.the-variants.{Nobody as Turn-nobody, Duty as Turn-duty, Spare}
+use Rattle.workload.specs.declared.turns.Turn.the-variants.{Duty as Turn-duty}
 use Rattle.workload.specs.declared.workloads.Workload.{Workload}
 
 -- An errand waits exactly when one is named.

@@ -1,4 +1,4 @@
-use mathlib.Core.Path.{_≡_, ap, subst, _∙_}
+use mathlib.Core.Path.{ap, subst, _∙_}
 use mathlib.Core.Bool.{_&&_}
 use lib.Dec.{leb}
 use Rattle.std.specs.Options.{isSome}
