@@ -163,9 +163,15 @@ fn duty(cost: u32, deadline: u32, separation: u32) -> Duty {
 fn cases() -> Vec<Case> {
     let spread = |n: u32| -> Vec<Duty> { (0..n).map(|i| duty(1, 60 + 10 * i, 60 + 10 * i)).collect() };
     vec![
-        Case { name: "1 row", duties: vec![duty(3, 10, 12)], ticks: 20_000, finish: 0 },
+        Case { name: "1 row", duties: vec![duty(30, 100, 120)], ticks: 20_000, finish: 0 },
         Case {
             name: "4 rows",
+            duties: vec![duty(2, 20, 40), duty(10, 80, 100), duty(30, 300, 400), duty(60, 900, 1000)],
+            ticks: 20_000,
+            finish: 0,
+        },
+        Case {
+            name: "4 rows, windows of a few ticks",
             duties: vec![duty(1, 4, 8), duty(2, 12, 16), duty(3, 30, 40), duty(5, 100, 120)],
             ticks: 20_000,
             finish: 0,
