@@ -4,11 +4,11 @@ ghost use lib.ListN.{take};
 ghost use Rattle.model.specs.Queues.{errand-within, distinct, Put, Spend, Take};
 ghost use Rattle.list.specs.Held.{held};
 ghost use Rattle.list.specs.Order.{sorted};
-ghost use Rattle.queue.specs.Lines.{errands, line-meaning, place-of, first-number, ranks, spent, without, LinesUp};
+ghost use Rattle.queue.specs.Lines.{errands, line-meaning, place-of, first-number, spent, without, LinesUp};
+ghost use Rattle.queue.specs.Ranks.{ranks};
 use super::slots::Slot;
 use super::slots::SlotRanked;
 use list::OrderedList;
-use model::Errand;
 use model::Refusal;
 
 // A queue has at most so many places.
