@@ -102,7 +102,7 @@ def fits_its_word(form):
     if LINES.get(word) != "".join(map(kind, items)):
         return False
     if word == "sheet":
-        return int(items[0]) == 1
+        return items[0].lstrip("0") == "1"
     if word == "queue":
         return items[0] in ("first", "worth")
     return True
