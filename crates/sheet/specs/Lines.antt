@@ -1,8 +1,10 @@
 -- The lines of a text, and the bytes that they may hold.
-use Prim.Native.Nat.{ℕ, _+_}
+use Prim.Native.Nat.{ℕ, suc, _+_}
 use mathlib.Core.Bool.{Bool, true, false, cond, _&&_}
 use mathlib.Core.List.{List, [], _∷_}
+use mathlib.Core.Path.{_≡_}
 use lib.Dec.{leb, eqb}
+use lib.ListN.{length, drop}
 use Rattle.std.specs.declared.option.Option.{Option}
 use Rattle.std.specs.declared.option.Option.the-variants.{Some, None}
 use Rattle.sheet.specs.Faults.{fault}
@@ -10,6 +12,7 @@ use Rattle.sheet.specs.declared.faults.Fault.{Fault}
 use Rattle.sheet.specs.declared.faults.Layer.the-variants.{Letters}
 use Rattle.sheet.specs.declared.faults.Place.{Place}
 use Rattle.sheet.specs.declared.lines.Line.{Line as Line-part}
+use Rattle.sheet.specs.declared.lines.Reader.{Reader}
 
 -- A line: its bytes without the 10 that ends it, the place of its first byte, and whether that 10 is there.
 pub record Line : Type 0 where
@@ -42,9 +45,29 @@ lines p (b ∷ bs) =
     (record { bytes = []; place = p; ended = true } ∷ lines (next-line p) bs)
     (begun-by b p (lines (next-byte p) bs))
 
+-- The length of the first line: how many bytes come before the first 10.
+abbrev pub line-length : List ℕ → ℕ
+line-length [] = 0
+line-length (b ∷ bs) = cond (eqb b 10) 0 (suc (line-length bs))
+
 -- The place of a text's first byte.
 abbrev pub first-place : Place
 first-place = record { line = 1; byte = 0 }
+
+-- The lines that a reader has still to hand out.
+abbrev pub lines-left : Reader → List Line
+lines-left r = lines (r .place) (drop (r .place .byte) (r .text .now))
+
+-- The next line, if there is one.
+abbrev pub Next : List Line → Option Line-part → List Line → Type 0
+Next ls None later = (ls ≡ []) × (later ≡ [])
+Next ls (Some l) later = ls ≡ line-of l ∷ later
+
+-- What a reader hands out, and where it then stands.
+pub record Hands-out (before : Reader) (r : Option Line-part) (after : Reader) : Type 0 where
+  pub hands : Next (lines-left before) r (lines-left after)
+  pub counts : after .place .line + length (lines-left after) ≡ before .place .line + length (lines-left before)
+  pub keeps : after .text .now ≡ before .text .now
 
 -- The bytes that a line may hold.
 abbrev pub allowed : ℕ → Bool

@@ -3,7 +3,9 @@
 mod drafts;
 mod faults;
 mod lines;
+mod passing;
 mod sayings;
+mod splitting;
 
 pub use drafts::Sheet;
 pub use drafts::Stage;
@@ -15,6 +17,11 @@ pub use faults::Place;
 pub use faults::SheetFault;
 pub use faults::TableFault;
 pub use lines::Line;
+pub use lines::Reader;
+pub use passing::FaultFromTable;
+pub use passing::FormsFromLetters;
+pub use passing::SheetFromForms;
+pub use passing::TableFromSheet;
 pub use sayings::At;
 pub use sayings::QueueName;
 pub use sayings::Said;
