@@ -59,6 +59,11 @@ abbrev pub reported : {X E : Type 0} → (E → Fault) → Result X E → Result
 reported tells (Ok x) = Ok x
 reported tells (Err e) = Err (tells e)
 
+-- The fault that a layer tells, if any.
+abbrev pub failing : {X E : Type 0} → (E → Fault) → Result X E → Option Fault
+failing tells (Ok x) = None
+failing tells (Err e) = Some (tells e)
+
 -- A fault where a test fails.
 abbrev pub unless : Bool → Fault → Option Fault
 unless true f = None

@@ -1,10 +1,11 @@
 -- The lines of a text, and the bytes that they may hold.
-use Prim.Native.Nat.{ℕ, suc, _+_}
+use Prim.Native.Nat.{ℕ, suc, _+_, _≤_}
 use mathlib.Core.Bool.{Bool, true, false, cond, _&&_}
 use mathlib.Core.List.{List, [], _∷_}
 use mathlib.Core.Path.{_≡_}
 use lib.Dec.{leb, eqb}
 use lib.ListN.{length, drop}
+use Rattle.std.specs.Slices.{found}
 use Rattle.std.specs.declared.option.Option.{Option}
 use Rattle.std.specs.declared.option.Option.the-variants.{Some, None}
 use Rattle.sheet.specs.Faults.{fault}
@@ -63,10 +64,15 @@ abbrev pub Next : List Line → Option Line-part → List Line → Type 0
 Next ls None later = (ls ≡ []) × (later ≡ [])
 Next ls (Some l) later = ls ≡ line-of l ∷ later
 
+-- A line lies within the longest text.
+abbrev pub Lies-within : Line-part → Type 0
+Lies-within l = l .place .byte + length (l .part .now) ≤ 32768
+
 -- What a reader hands out, and where it then stands.
 pub record Hands-out (before : Reader) (r : Option Line-part) (after : Reader) : Type 0 where
   pub hands : Next (lines-left before) r (lines-left after)
   pub counts : after .place .line + length (lines-left after) ≡ before .place .line + length (lines-left before)
+  pub lies : found r Lies-within
   pub keeps : after .text .now ≡ before .text .now
 
 -- The bytes that a line may hold.
