@@ -2,11 +2,14 @@
 use Prim.Native.Nat.{ℕ, zero, suc, _+_, _-_, _*_, min}
 use mathlib.Core.Bool.{Bool, true, false, cond, _&&_}
 use mathlib.Core.List.{List, [], _∷_}
+use mathlib.Core.Path.{_≡_}
+use denote.Ref.{RefT}
 use lib.Dec.{leb, ltb, eqb}
 use lib.ListN.{length, take, drop, getD}
 use Rattle.std.specs.Options.{mapped}
 use Rattle.std.specs.declared.option.Option.{Option}
 use Rattle.std.specs.declared.option.Option.the-variants.{Some, None}
+use Rattle.sheet.specs.declared.items.Items.{Items}
 use Rattle.sheet.specs.Forms.{closing, digit, opening, space}
 
 -- What stands between a form's first and last byte.
@@ -27,6 +30,24 @@ abbrev pub items : ℕ → List ℕ → List (List ℕ)
 items depth [] = [] ∷ []
 items depth (b ∷ bs) =
     cond (space b && eqb depth 0) ([] ∷ items 0 bs) (item-begun-by b (items (open-after depth b) bs))
+
+-- The length of the first item.
+abbrev pub item-length : ℕ → List ℕ → ℕ
+item-length depth [] = 0
+item-length depth (b ∷ bs) = cond (space b && eqb depth 0) 0 (suc (item-length (open-after depth b) bs))
+
+-- The items that are still to be handed out: none, or those of what stands behind the last one and its space.
+abbrev pub items-of : Option (RefT (List ℕ)) → List (List ℕ)
+items-of None = []
+items-of (Some part) = items 0 (part .now)
+
+abbrev pub items-left : Items → List (List ℕ)
+items-left r = items-of (r .rest)
+
+-- The next item, if there is one.
+abbrev pub Next-item : List (List ℕ) → Option (RefT (List ℕ)) → List (List ℕ) → Type 0
+Next-item is None later = (is ≡ []) × (later ≡ [])
+Next-item is (Some i) later = is ≡ i .now ∷ later
 
 -- In a form an item that begins with a digit is a number.
 abbrev pub is-number : List ℕ → Bool

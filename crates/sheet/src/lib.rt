@@ -3,6 +3,8 @@
 mod drafts;
 mod faults;
 mod forms;
+mod itemizing;
+mod items;
 mod letters;
 mod lines;
 mod passing;
@@ -18,6 +20,7 @@ pub use faults::LettersFault;
 pub use faults::Place;
 pub use faults::SheetFault;
 pub use faults::TableFault;
+pub use items::Items;
 pub use lines::Line;
 pub use lines::Reader;
 pub use passing::FaultFromTable;
