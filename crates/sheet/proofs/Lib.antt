@@ -1,3 +1,4 @@
 pub mod Ends
 pub mod Itemized
+pub mod Numbered
 pub mod Scans

@@ -7,6 +7,7 @@ mod itemizing;
 mod items;
 mod letters;
 mod lines;
+mod numbers;
 mod passing;
 mod sayings;
 mod splitting;
