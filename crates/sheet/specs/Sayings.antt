@@ -47,6 +47,11 @@ abbrev pub all-calls : List (List ℕ) → Bool
 all-calls [] = true
 all-calls (i ∷ is) = isSome (call i) && all-calls is
 
+-- One call or more.
+abbrev pub some-calls : List (List ℕ) → Bool
+some-calls [] = false
+some-calls (i ∷ is) = isSome (call i) && all-calls is
+
 -- `(sheet 1)`
 abbrev pub sheet-said : List ℕ → Option Said
 sheet-said vs = cond (eqb (getD vs 0 0) 1) (Some Sheet) None
@@ -70,8 +75,7 @@ queue-said (name ∷ i ∷ is) = None
 -- `(at CLOCK CALL ..)`
 abbrev pub at-said : List (List ℕ) → Option Said
 at-said [] = None
-at-said (clock ∷ []) = None
-at-said (clock ∷ i ∷ is) = cond (is-number clock && all-calls (i ∷ is)) (Some (At (value clock))) None
+at-said (clock ∷ is) = cond (is-number clock && some-calls is) (Some (At (value clock))) None
 
 -- `(end TICKS)`
 abbrev pub end-said : List ℕ → Said

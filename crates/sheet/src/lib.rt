@@ -1,5 +1,6 @@
 // Reading sheets: from the bytes of a text to its lines, what each line says, and the table, the queue, the
 // at-lines and the ticks that all of it sets; or the one fault that the text has.
+mod calls;
 mod drafts;
 mod faults;
 mod forms;
@@ -11,6 +12,7 @@ mod numbers;
 mod passing;
 mod sayings;
 mod splitting;
+mod wording;
 
 pub use drafts::Sheet;
 pub use drafts::Stage;
