@@ -6,6 +6,7 @@ mod faults;
 mod forms;
 mod itemizing;
 mod items;
+mod judging;
 mod letters;
 mod lines;
 mod numbers;
