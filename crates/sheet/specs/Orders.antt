@@ -14,7 +14,7 @@ use Rattle.model.specs.declared.duties.Duty.{Duty}
 use Rattle.table.specs.Settings.{table-of}
 use Rattle.sheet.specs.Faults.{fault, judged, table-fault, unless}
 use Rattle.sheet.specs.Lines.{Line}
-use Rattle.sheet.specs.Sayings.{fault-12, fault-13, fault-14, fault-15, says}
+use Rattle.sheet.specs.Sayings.{forms-faults, letters-faults, says}
 use Rattle.sheet.specs.declared.drafts.Draft.{Draft}
 use Rattle.sheet.specs.declared.drafts.Stage.{Stage}
 use Rattle.sheet.specs.declared.drafts.Stage.the-variants.{Start, Duties, Ats, Over}
@@ -86,6 +86,13 @@ fault-17 s l = unless (has-room (s .ats) (says l)) (fault 17 Sheet-layer (l .pla
 abbrev pub fault-of-table : So-far → Line → Option Fault
 fault-of-table s l = table-says (s .table) (l .place) (says l)
 
+-- Each layer's faults, in the order in which they count.
+abbrev pub sheet-faults : So-far → Line → List (Option Fault)
+sheet-faults s l = fault-16 s l ∷ fault-17 s l ∷ []
+
+abbrev pub table-faults : So-far → Line → List (Option Fault)
+table-faults s l = fault-of-table s l ∷ []
+
 -- The at-line that a line is, with its clock.
 abbrev pub at-line : ℕ → Line → At-line
 at-line clock l =
@@ -102,14 +109,30 @@ with-said s l (At clock) =
 with-said s l (End ticks) = record { stage = Over; table = s .table; queue = s .queue; ats = s .ats; ticks = ticks }
 with-said s l Remark = s
 
+-- What a line says at its place in the sheet, or the first fault of its letters, its form or its order.
+abbrev pub order-judged : So-far → Line → Result Said Fault
+order-judged s l = judged (letters-faults l ++ forms-faults l ++ sheet-faults s l) (says l)
+
+-- What the table makes of what a line in its place says; and of a duty.
+abbrev pub said-judged : So-far → Line → Said → Result So-far Fault
+said-judged s l said = judged (table-says (s .table) (l .place) said ∷ []) (with-said s l said)
+
+abbrev pub duty-judged : So-far → Place → ℕ → Duty → Result So-far Fault
+duty-judged s at place d =
+    judged (refused-at at (add-refusal (s .table) place d) ∷ [])
+    (record { stage = s .stage; table = after-add (s .table) place d; queue = s .queue; ats = s .ats; ticks = s .ticks })
+
 -- A line at its place in the sheet: the first layer in which it is faulty counts, and in that layer the smallest number.
 abbrev pub line-judged : So-far → Line → Result So-far Fault
 line-judged s l =
-    judged
-    (fault-12 l ∷ fault-13 l ∷ fault-14 l ∷ fault-15 l ∷ fault-16 s l ∷ fault-17 s l ∷ fault-of-table s l ∷ [])
-    (with-said s l (says l))
+    judged (letters-faults l ++ forms-faults l ++ sheet-faults s l ++ table-faults s l) (with-said s l (says l))
 
 -- The lines from first to last: the first faulty one counts.
 abbrev pub lines-judged : So-far → List Line → Result So-far Fault
 lines-judged s [] = Ok s
 lines-judged s (l ∷ ls) = elim (line-judged s l) [ Ok t ↦ lines-judged t ls | Err f ↦ Err f ]
+
+-- What reading a line left, or the fault that it gave.
+abbrev pub left-with : {X E : Type 0} → (E → Fault) → Result X E → So-far → Result So-far Fault
+left-with tells (Ok x) s = Ok s
+left-with tells (Err e) s = Err (tells e)

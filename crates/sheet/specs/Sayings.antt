@@ -1,7 +1,7 @@
 -- What a line says: its word decides which items it wants. The faults of the layers letters and forms.
 use Prim.Native.Nat.{ℕ}
 use mathlib.Core.Bool.{Bool, true, false, cond, _&&_, _||_}
-use mathlib.Core.List.{List, [], _∷_}
+use mathlib.Core.List.{List, [], _∷_, _++_}
 use lib.Chars.{codes}
 use lib.Dec.{leb, eqb}
 use lib.ListN.{getD}
@@ -112,7 +112,7 @@ end-fits (At clock) = true
 end-fits (End ticks) = leb ticks 10000
 end-fits Remark = true
 
--- The faults of a line's letters and of its form, in the order in which they count.
+-- The faults of a line's letters and of its form.
 abbrev pub fault-12 : Line → Option Fault
 fault-12 l = bad-letter (l .place) (l .bytes)
 
@@ -126,6 +126,13 @@ abbrev pub fault-15 : Line → Option Fault
 fault-15 l =
     unless (is-remark (l .bytes) || (numbers-fit (l .bytes) && end-fits (says l))) (fault 15 Forms (l .place))
 
+-- Each layer's faults, in the order in which they count.
+abbrev pub letters-faults : Line → List (Option Fault)
+letters-faults l = fault-12 l ∷ []
+
+abbrev pub forms-faults : Line → List (Option Fault)
+forms-faults l = fault-13 l ∷ fault-14 l ∷ fault-15 l ∷ []
+
 -- What a line says, or the first fault of its letters or its form.
 abbrev pub form-judged : Line → Result Said Fault
-form-judged l = judged (fault-12 l ∷ fault-13 l ∷ fault-14 l ∷ fault-15 l ∷ []) (says l)
+form-judged l = judged (letters-faults l ++ forms-faults l) (says l)

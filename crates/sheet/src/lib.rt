@@ -2,6 +2,7 @@
 // at-lines and the ticks that all of it sets; or the one fault that the text has.
 mod calls;
 mod drafts;
+mod entering;
 mod faults;
 mod forms;
 mod itemizing;
