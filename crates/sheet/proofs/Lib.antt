@@ -1,0 +1,6 @@
+pub mod Ends
+pub mod Itemized
+pub mod Judgements
+pub mod Lined
+pub mod Numbered
+pub mod Scans
