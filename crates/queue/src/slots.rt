@@ -1,7 +1,7 @@
 ghost use mathlib.Core.Path.{_≡_};
 ghost use Rattle.model.specs.Queues.{errand-within};
-ghost use Rattle.queue.specs.Ratings.{outrates};
-ghost use Rattle.queue.specs.Slots.{Made, with-units};
+ghost use Rattle.queue.specs.Lines.{ranks};
+ghost use Rattle.queue.specs.Slots.{Holds, Made, with-units};
 use super::ratings::Rating;
 use list::Ranked;
 use model::Errand;
@@ -15,23 +15,29 @@ pub struct Slot {
 }
 
 pub impl Ranked for Slot as SlotRanked {
-    ghost before = { λ x y. outrates (x .rating) (y .rating) };
+    ghost before = { ranks };
 
     fn is_before(&self, other: &Slot) -> bool {
         self.rating.outrates(&other.rating)
     }
 }
 
-// 1 to 4,096 units, a worth of at most 65,535.
+const MOST_UNITS: u32 = 4096;
+
+const MOST_WORTH: u32 = 65535;
+
+// At least one unit, and no more units and worth than an errand may have.
 fn within_limits(errand: &Errand) -> bool
     ensures { λ r. ⌜ r ≡ errand-within (now (errand .entry)) ⌝ }
 {
-    1 <= errand.units && errand.units <= 4096 && errand.worth <= 65535
+    1 <= errand.units && errand.units <= MOST_UNITS && errand.worth <= MOST_WORTH
 }
 
 impl Slot {
-    // A slot that nothing waits in yet.
-    pub fn free() -> Slot {
+    // A slot to hand to a queue: no queue reads it before an errand is put there.
+    pub fn free() -> Slot
+        ensures { λ r. ⌜ Holds (record { number = 0; units = 1; worth = 0 }) 0 1 r ⌝ }
+    {
         Slot {
             errand: Errand {
                 number: 0,
@@ -42,7 +48,7 @@ impl Slot {
         }
     }
 
-    // A slot for an errand that is rated as every other.
+    // A slot for an errand that is rated as every other, so that it outrates none.
     pub(crate) fn level(errand: Errand) -> Result<Slot, Refusal>
         ensures { λ r. ⌜ Made errand 0 1 r ⌝ }
     {

@@ -1,12 +1,13 @@
 use native.Mathlib.Omega.{arith}
-use mathlib.Core.Path.{ap, _∙_}
-use lib.ListN.{length, length-take}
+use denote.Ref.{now}
+use mathlib.Core.Path.{_≡_, ap}
+use lib.ListN.{length, take, length-take}
 use Rattle.queue.proofs.worths.ByWorth.new.Needs as need
 
 pub returns : need.returns
 returns c =
-    let size = ap length (c .new .ensures .slots ∙ c .own-slots .ensures) in
+    let own : now (c .new .result .slots) ≡ take 1024 (c .args .slots .now) = cc in
     record {
       empty = c .new .ensures .holds;
-      size = omega (arith, size, length-take 1024 (c .args .slots .now));
+      size = omega (arith, ap length own, length-take 1024 (c .args .slots .now));
     }
