@@ -1,4 +1,5 @@
 pub mod Ends
+pub mod Finishes
 pub mod Itemized
 pub mod Judgements
 pub mod Lined

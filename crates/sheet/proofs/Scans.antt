@@ -41,9 +41,9 @@ empty-after bs i h =
     grind (arith, tells)
 
 -- The front of a list, cut at its length where that is less.
-pub take-front : (bs : List ℕ) (n cut : ℕ) → cut ≡ min (length bs) n → take (cut - 0) bs ≡ take n bs
-take-front bs n cut e =
+pub take-front : {X : Type 0} (xs : List X) (n cut : ℕ) → cut ≡ min (length xs) n → take (cut - 0) xs ≡ take n xs
+take-front xs n cut e =
     ⊎-elim
-    (λ lt. take-all (cut - 0) bs (omega arith) ∙ sym (take-all n bs (omega arith)))
-    (λ le. let same : cut - 0 ≡ n = omega arith in ap (λ k. take k bs) same)
-    (cases-lt (length bs) n)
+    (λ lt. take-all (cut - 0) xs (omega arith) ∙ sym (take-all n xs (omega arith)))
+    (λ le. let same : cut - 0 ≡ n = omega arith in ap (λ k. take k xs) same)
+    (cases-lt (length xs) n)

@@ -1,5 +1,5 @@
 -- Which sheet a text is, or which fault it has.
-use Prim.Native.Nat.{ℕ, suc}
+use Prim.Native.Nat.{ℕ, _+_}
 use mathlib.Core.Bool.{Bool, true, false, cond}
 use mathlib.Core.List.{List, [], _∷_}
 use lib.Dec.{leb, ltb}
@@ -11,7 +11,7 @@ use Rattle.std.specs.declared.result.Result.the-variants.{Ok, Err}
 use Rattle.model.specs.declared.duties.Duty.{Duty}
 use Rattle.table.specs.Settings.{table-of}
 use Rattle.sheet.specs.Faults.{fault, judged, unless}
-use Rattle.sheet.specs.Lines.{first-place, lines}
+use Rattle.sheet.specs.Lines.{first-place, lines, lines-left}
 use Rattle.sheet.specs.Orders.{So-far, lines-judged, nothing-read}
 use Rattle.sheet.specs.declared.drafts.Sheet.{Sheet}
 use Rattle.sheet.specs.declared.drafts.Stage.{Stage}
@@ -19,6 +19,7 @@ use Rattle.sheet.specs.declared.drafts.Stage.the-variants.{Start, Duties, Ats,
 use Rattle.sheet.specs.declared.faults.Fault.{Fault}
 use Rattle.sheet.specs.declared.faults.Layer.the-variants.{Sheet as Sheet-layer}
 use Rattle.sheet.specs.declared.faults.Place.{Place}
+use Rattle.sheet.specs.declared.lines.Reader.{Reader}
 use Rattle.sheet.specs.declared.sayings.At.{At as At-line}
 use Rattle.sheet.specs.declared.sayings.QueueName.{QueueName}
 
@@ -53,19 +54,30 @@ whole missing s =
 
 -- One past the last line, at the text's length.
 abbrev pub missing-line : List ℕ → Place
-missing-line text = record { line = suc (length (lines first-place text)); byte = length text }
+missing-line text = record { line = 1 + length (lines first-place text); byte = length text }
 
-abbrev pub of-lines : List ℕ → Result So-far Fault → Result Set Fault
-of-lines text (Ok s) = whole (missing-line text) s
-of-lines text (Err f) = Err f
+-- Where a reader stands after its last line.
+abbrev pub end-of : Reader → Place
+end-of r = record { line = r .place .line + length (lines-left r); byte = length (r .text .now) }
+
+-- A sheet whose lines were judged.
+abbrev pub of-lines : Place → Result So-far Fault → Result Set Fault
+of-lines missing (Ok s) = whole missing s
+of-lines missing (Err f) = Err f
+
+-- 17, where a text is too long.
+abbrev pub too-long : List ℕ → Option Fault
+too-long text = unless (leb (length text) 32768) (fault 17 Sheet-layer first-place)
 
 -- The sheet that a text is, or its fault.
 abbrev pub sheet-of : List ℕ → Result Set Fault
 sheet-of text =
-    cond (ltb 32768 (length text)) (Err (fault 17 Sheet-layer first-place))
-    (of-lines text (lines-judged nothing-read (lines first-place text)))
+    elim (too-long text) [
+      | Some f ↦ Err f
+      | None ↦ of-lines (missing-line text) (lines-judged nothing-read (lines first-place text))
+    ]
 
 -- What reading gave, as a sheet or a fault.
-abbrev pub outcome : Result Sheet Fault → Result Set Fault
-outcome (Ok s) = Ok (set-by s)
-outcome (Err f) = Err f
+abbrev pub outcome : {E : Type 0} → (E → Fault) → Result Sheet E → Result Set Fault
+outcome tells (Ok s) = Ok (set-by s)
+outcome tells (Err e) = Err (tells e)
