@@ -1,14 +1,12 @@
 -- One byte on in a scan for a form's bytes and brackets.
-use Prim.Native.Nat.{ℕ, min, _+_, _-_, _<_}
-use mathlib.Core.Path.{_≡_, refl, sym, ap, _∙_}
+use Prim.Native.Nat.{ℕ, _+_, _-_, _<_}
+use mathlib.Core.Path.{_≡_, refl, ap, _∙_}
 use mathlib.Core.Bool.{Bool, true, false, cond, _&&_}
 use mathlib.Core.List.{List, [], _∷_}
-use mathlib.Core.Logic.{⊎-elim}
 use native.Mathlib.Omega.{arith}
 use lib.Dec.{eqb, ltb}
-use lib.ListN.{length, take, drop, getD, length-drop}
-use Rattle.std.proofs.shelf.Lists.{at-drop-more, take-all}
-use Rattle.std.proofs.shelf.Tests.{cases-lt}
+use lib.ListN.{length, drop, getD, length-drop}
+use Rattle.std.proofs.shelf.Lists.{at-drop-more}
 use Rattle.std.proofs.shelf.Ways.{tells}
 use Rattle.sheet.specs.Forms.{closed, closing, empty, may-follow, opening, spelled}
 
@@ -39,11 +37,3 @@ empty-after bs i h =
     let left = empty-is (drop (i + 1) bs) in
     let size = length-drop (i + 1) bs in
     grind (arith, tells)
-
--- The front of a list, cut at its length where that is less.
-pub take-front : {X : Type 0} (xs : List X) (n cut : ℕ) → cut ≡ min (length xs) n → take (cut - 0) xs ≡ take n xs
-take-front xs n cut e =
-    ⊎-elim
-    (λ lt. take-all (cut - 0) xs (omega arith) ∙ sym (take-all n xs (omega arith)))
-    (λ le. let same : cut - 0 ≡ n = omega arith in ap (λ k. take k xs) same)
-    (cases-lt (length xs) n)

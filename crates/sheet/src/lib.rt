@@ -1,5 +1,6 @@
 // Reading sheets: from the bytes of a text to its lines, what each line says, and the table, the queue, the
 // at-lines and the ticks that all of it sets; or the one fault that the text has.
+mod ats;
 mod calls;
 mod drafts;
 mod entering;
@@ -13,10 +14,12 @@ mod lines;
 mod numbers;
 mod passing;
 mod reading;
+mod replaying;
 mod sayings;
 mod splitting;
 mod wording;
 
+pub use ats::Calls;
 pub use drafts::Sheet;
 pub use drafts::Stage;
 pub use faults::Fault;

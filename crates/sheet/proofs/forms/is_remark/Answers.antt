@@ -1,6 +1,6 @@
 use mathlib.Core.Path.{_≡_}
 use borrow.Author.Needs.{needs}
-use Rattle.sheet.proofs.Scans.{take-front}
+use Rattle.sheet.proofs.Cuts.{take-front}
 use Rattle.sheet.proofs.forms.is_remark.Needs as need
 
 pub returns-else-same : need.returns-else-same
