@@ -12,4 +12,5 @@ pub mod Responses
 pub mod Runs
 pub mod Searches
 pub mod Table
+pub mod Totals
 pub mod Worked
