@@ -1,0 +1,2 @@
+// What a sheet prints: the script of its at-lines, its run, and the text of both.
+mod lines;
