@@ -1,1 +1,4 @@
 pub mod Lines
+pub mod Renderings
+pub mod Schedules
+pub mod Transcripts

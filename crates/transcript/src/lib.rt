@@ -1,2 +1,4 @@
 // What a sheet prints: the script of its at-lines, its run, and the text of both.
+mod events;
 mod lines;
+mod totals;
