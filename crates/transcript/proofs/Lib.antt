@@ -1,1 +1,5 @@
+pub mod Clocks
+pub mod Growing
+pub mod Inserting
 pub mod Rendered
+pub mod Scheduled

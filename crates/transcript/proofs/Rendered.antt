@@ -21,12 +21,6 @@ use Rattle.model.specs.declared.duties.Duty.{Duty}
 use Rattle.transcript.specs.Lines.{duty-line, event-line}
 use Rattle.transcript.specs.Renderings.{duty-lines, event-lines}
 
--- A line is written that was first of what was still to be written.
-pub line-more : (before line after rest whole : List ℕ)
-    → before ++ (line ++ rest) ≡ whole → after ≡ before ++ line → after ++ rest ≡ whole
-line-more before line after rest whole all wrote =
-    ap (λ (bs : List ℕ). bs ++ rest) wrote ∙ append-assoc before line rest ∙ all
-
 -- One row more.
 pub duty-more : (table : List Duty) (row w : ℕ) (start before after : List ℕ)
     → response table row ≡ Some w

@@ -1,4 +1,5 @@
 pub mod Lines
 pub mod Renderings
 pub mod Schedules
+pub mod Timings
 pub mod Transcripts

@@ -1,4 +1,7 @@
 // What a sheet prints: the script of its at-lines, its run, and the text of both.
+mod arranging;
 mod events;
 mod lines;
+mod scheduling;
+mod timings;
 mod totals;

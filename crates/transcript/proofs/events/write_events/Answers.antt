@@ -7,7 +7,8 @@ use Rattle.dispatcher.specs.Scripts.{trace-of}
 use Rattle.std.specs.Of.String.{string-bytes}
 use Rattle.transcript.specs.Lines.{event-line}
 use Rattle.transcript.specs.Renderings.{event-lines}
-use Rattle.transcript.proofs.Rendered.{at-most-one, events-all, events-more, line-more, no-entry}
+use Rattle.transcript.proofs.Growing.{part-more}
+use Rattle.transcript.proofs.Rendered.{at-most-one, events-all, events-more, no-entry}
 use Rattle.transcript.proofs.events.write_events.Needs as need
 
 pub loop-entry-again : need.loop-entry-again
@@ -24,7 +25,7 @@ loop-entry-again c =
     let more =
     events-more script i clock short
     ∙ ap (λ (k : ℕ). line ++ event-lines (clock + k) (trace-of (drop (i + 1) script))) (sym moved) in (
-      line-more written line _ _ _ (ap (λ (bs : List ℕ). written ++ bs) (sym more) ∙ all) (c .in-Continue-write-event .ensures tt),
+      part-more written line _ _ _ (ap (λ (bs : List ℕ). written ++ bs) (sym more) ∙ all) (c .in-Continue-write-event .ensures tt),
       omega (arith, at-most-one (e .answer), moved),
     )
 
