@@ -1,7 +1,7 @@
 -- A script that is carried out call by call.
 use Prim.Native.Nat.{ℕ, _+_, _<_}
 use mathlib.Core.Path.{_≡_, sym, ap, _∙_}
-use mathlib.Core.List.{List, [], _∷_, _++_, map}
+use mathlib.Core.List.{List, [], _∷_, _++_}
 use lib.ListN.{length, getD, set, take}
 use Rattle.std.proofs.shelf.Lists.{getD-map, map-push, map-set, set-getD, take-more-set}
 use Rattle.model.specs.Machine.{State, Step}

@@ -1,5 +1,4 @@
 -- A dispatcher as a state of the machine, its queue by its meaning.
-use Prim.Native.Nat.{ℕ}
 use mathlib.Core.List.{List}
 use Rattle.model.specs.Machine.{State}
 use Rattle.model.specs.Queues.{Meaning}

@@ -1,6 +1,6 @@
 // The calls of a running dispatcher. Each answers and leaves what the machine's step says.
 ghost use mathlib.Core.Path.{_≡_};
-ghost use Rattle.model.specs.Machine.{Requested, Row-called, Step, Ticks, Withdraws, fresh, plain-answer, slack-of};
+ghost use Rattle.model.specs.Machine.{Requested, Row-called, Step, Ticks, Withdraws, fresh, plain-answer, slack-of, waits};
 ghost use Rattle.model.specs.declared.rows.RowCall.the-variants.{Release, Done};
 ghost use Rattle.table.specs.Settings.{table-of};
 ghost use Rattle.dispatcher.specs.Views.{duties, view};
@@ -66,12 +66,19 @@ impl<Q: Queue> Dispatcher<Q> {
         self.work.slack()
     }
 
+    // An errand waits.
+    fn errand_waits(&self) -> bool
+        ensures { λ r. ⌜ r ≡ waits (meaning (now (self .entry) .queue)) ⌝ }
+    {
+        self.queue.name().is_some()
+    }
+
     // One tick: the slack before it, and who had it.
     pub fn tick(&mut self) -> Result<(u32, Who), Refusal>
         ensures step { λ r. ⌜ Ticks (duties (now (self .entry))) (view meaning (now (self .entry))) r (view meaning (now (self .exit))) ⌝ }
         ensures table { λ _. ⌜ duties (now (self .exit)) ≡ duties (now (self .entry)) ⌝ }
     {
-        let errand_waits = self.queue.name().is_some();
+        let errand_waits = self.errand_waits();
         let (slack, turn) = self.work.tick(errand_waits)?;
         let who = match turn {
             Turn::Nobody => Who::Nobody,

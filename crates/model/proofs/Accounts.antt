@@ -29,11 +29,11 @@ use Rattle.model.proofs.Found.{none-is}
 use Rattle.model.proofs.Ticks.{turn-cases}
 
 -- The units of what was looked up.
-abbrev units-of : Option Errand → ℕ
+abbrev pub units-of : Option Errand → ℕ
 units-of None = 0
 units-of (Some e) = e .units
 
-units-looked-up : (es : List Errand) (n : ℕ) → units-in es n ≡ units-of (look es n)
+pub units-looked-up : (es : List Errand) (n : ℕ) → units-in es n ≡ units-of (look es n)
 units-looked-up es n = go (look es n) refl
   where
     go : (o : Option Errand) → look es n ≡ o → units-in es n ≡ units-of o
@@ -175,3 +175,9 @@ module _ (table : List Duty) where
   accounts-kept s trace end (step {s′ = s′} {call = call} {answer = answer} {rest = rest} one more) sound n =
       let balanced = step-balanced s call answer s′ one sound in
       omega (arith, balanced .balance n, accounts-kept s′ rest end more (balanced .sound) n)
+
+  -- A run leads from a sound queue to a sound queue.
+  pub run-sound : (s : State) (trace : Trace) (end : State) → Run table s trace end → Sound (s .queue) → Sound (end .queue)
+  run-sound s trace end stay sound = sound
+  run-sound s trace end (step {s′ = s′} {call = call} {answer = answer} {rest = rest} one more) sound =
+      run-sound s′ rest end more (step-balanced s call answer s′ one sound .sound)

@@ -22,3 +22,4 @@ pub mod Sums
 pub mod Ticks
 pub mod Timely
 pub mod Told
+pub mod Totals

@@ -1,14 +1,12 @@
 -- The search for a response time finds the least number of ticks that suffices.
-use Prim.Native.Nat.{ℕ, suc, _+_, _≤_, _<_}
+use Prim.Native.Nat.{ℕ, suc, _≤_, _<_}
 use mathlib.Core.Path.{_≡_}
-use mathlib.Core.Bool.{true, false}
 use mathlib.Core.Logic.{⊎-elim}
 use mathlib.Core.List.{List}
 use native.Mathlib.Omega.{arith}
-use lib.Dec.{leb}
 use lib.ListN.{take}
 use Rattle.std.specs.declared.option.Option.the-variants.{Some, None}
-use Rattle.std.proofs.shelf.Tests.{cases-bool, cases-lt, le-leb, leb-false, leb-true, lt-leb}
+use Rattle.std.proofs.shelf.Tests.{cases-bool, cases-lt, le-leb, leb-false, leb-true}
 use Rattle.model.proofs.Searches.{least-found, least-is, none-passes}
 use Rattle.model.specs.Responses.{Response-is-least, Response-time}
 use Rattle.model.specs.Table.{busy, duty-at, response, suffices}

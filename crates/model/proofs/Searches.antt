@@ -4,10 +4,8 @@ use mathlib.Core.Path.{_≡_, refl, sym, ap, _∙_}
 use mathlib.Core.Bool.{Bool, true, false}
 use mathlib.Core.Logic.{⊎-elim}
 use native.Mathlib.Omega.{arith}
-use Rattle.std.specs.Options.{isSome}
-use Rattle.std.specs.declared.option.Option.{Option}
 use Rattle.std.specs.declared.option.Option.the-variants.{Some, None}
-use Rattle.std.proofs.shelf.Tests.{cases-bool, cases-order, both-ways}
+use Rattle.std.proofs.shelf.Tests.{cases-bool, cases-order}
 use Rattle.model.specs.Searches.{least}
 
 -- w is the least of the n numbers from `low` on that passes.

@@ -1,17 +1,15 @@
 -- The slack of a row is the number of its idle ticks, and the greatest of what any number of ticks has to spare.
-use Prim.Native.Nat.{ℕ, zero, suc, _+_, _-_, _*_, max, _≤_, _<_}
-use mathlib.Core.Path.{_≡_, refl, sym, ap, _∙_}
-use mathlib.Core.Bool.{Bool, true, false, cond}
+use Prim.Native.Nat.{ℕ, zero, suc, _+_, _-_, _≤_, _<_}
+use mathlib.Core.Path.{_≡_, ap, _∙_}
 use mathlib.Core.Logic.{⊎-elim}
 use mathlib.Core.List.{List, [], _∷_}
 use native.Mathlib.Omega.{arith}
-use lib.Dec.{leb}
 use lib.ListN.{take}
 use Rattle.std.proofs.shelf.Tests.{cases-lt, cond-false, cond-true, le-leb, lt-leb}
 use Rattle.model.proofs.Demand.{jobs-le}
 use Rattle.model.proofs.Extremes.{greatest-above, greatest-taken}
-use Rattle.model.specs.Idle.{Greatest-spare, Slack-is-greatest, Slack-is-idle-ticks, idle-ticks, within}
-use Rattle.model.specs.Reckoning.{demand, demand-at, left-of, need, next-release, row-slack, spare, window}
+use Rattle.model.specs.Idle.{Slack-is-greatest, Slack-is-idle-ticks, idle-ticks, within}
+use Rattle.model.specs.Reckoning.{demand, need, next-release, spare, window}
 use Rattle.model.specs.Searches.{greatest}
 use Rattle.model.specs.declared.duties.Duty.{Duty}
 use Rattle.model.specs.declared.rows.Row.{Row}

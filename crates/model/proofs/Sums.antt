@@ -1,5 +1,5 @@
--- Sums over the first rows of a table. Demand and busy time are such sums, so a fact about each row gives one about
--- the demand of a row.
+-- Sums of what a function says of the first numbers. Demand and busy time are such sums over the rows of a table, so a
+-- fact about each row gives one about the demand of a row.
 use Prim.Native.Nat.{ℕ, zero, suc, _+_, _*_, _≤_, _<_}
 use mathlib.Core.Path.{_≡_, refl, _∙_}
 use mathlib.Core.List.{List, [], _∷_}
@@ -11,7 +11,7 @@ use Rattle.model.specs.declared.duties.Duty.{Duty}
 use Rattle.model.specs.declared.rows.Row.{Row}
 
 -- f 0 + … + f (m − 1).
-abbrev sum-to : (ℕ → ℕ) → ℕ → ℕ
+abbrev pub sum-to : (ℕ → ℕ) → ℕ → ℕ
 sum-to f zero = 0
 sum-to f (suc m) = f 0 + sum-to (λ i. f (suc i)) m
 
@@ -57,9 +57,32 @@ sum-has f zero (suc m) h = omega arith
 sum-has f (suc k) (suc m) h = omega (arith, sum-has (λ i. f (suc i)) k m (omega arith))
 
 -- Nothing in each row: nothing in all.
-sum-none : (f : ℕ → ℕ) (m : ℕ) → ((i : ℕ) → i < m → f i ≡ 0) → sum-to f m ≡ 0
+pub sum-none : (f : ℕ → ℕ) (m : ℕ) → ((i : ℕ) → i < m → f i ≡ 0) → sum-to f m ≡ 0
 sum-none f zero each = refl
 sum-none f (suc m) each = omega (arith, each 0 (omega arith), sum-none (λ i. f (suc i)) m (λ i h. each (suc i) (omega arith)))
+
+-- As much in each row: as much in all.
+pub sum-same : (f g : ℕ → ℕ) (m : ℕ) → ((i : ℕ) → i < m → f i ≡ g i) → sum-to f m ≡ sum-to g m
+sum-same f g zero each = refl
+sum-same f g (suc m) each =
+    omega (arith, each 0 (omega arith), sum-same (λ i. f (suc i)) (λ i. g (suc i)) m (λ i h. each (suc i) (omega arith)))
+
+-- Two parts in each row: the sum of each part, together.
+pub sum-both : (f g : ℕ → ℕ) (m : ℕ) → sum-to (λ i. f i + g i) m ≡ sum-to f m + sum-to g m
+sum-both f g zero = refl
+sum-both f g (suc m) = omega (arith, sum-both (λ i. f (suc i)) (λ i. g (suc i)) m)
+
+-- Nothing in each row but k: in all what row k has.
+pub sum-alone : (f : ℕ → ℕ) (k m : ℕ) → k < m → ((i : ℕ) → i < m → (i ≡ k → ⊥) → f i ≡ 0) → sum-to f m ≡ f k
+sum-alone f k zero inside others = absurd (omega arith)
+sum-alone f zero (suc m) inside others =
+    omega (arith, sum-none (λ i. f (suc i)) m (λ i h. others (suc i) (omega arith) (omega arith)))
+sum-alone f (suc k) (suc m) inside others =
+    omega (
+      arith,
+      others 0 (omega arith) (omega arith),
+      sum-alone (λ i. f (suc i)) k m (omega arith) (λ i h other. others (suc i) (omega arith) (λ e. other (omega arith))),
+    )
 
 -- What row i needs up to the clock x.
 abbrev pub need-at : ℕ → List Duty → List Row → ℕ → ℕ → ℕ

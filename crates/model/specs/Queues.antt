@@ -1,6 +1,6 @@
 -- What a queue means: which errands wait, which one it names, and how many places it has. Meanings are
 -- compared by looking numbers up, so the order in which the errands are listed says nothing.
-use Prim.Native.Nat.{ℕ, suc, pred, _≤_}
+use Prim.Native.Nat.{ℕ, pred, _≤_}
 use mathlib.Core.Path.{_≡_}
 use mathlib.Core.Bool.{Bool, true, false, cond, not, _&&_}
 use mathlib.Core.List.{List, [], _∷_}

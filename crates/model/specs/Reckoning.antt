@@ -1,7 +1,7 @@
 -- Demand and slack, by absolute clocks. The reckoning takes `from`, the first clock at which an idle row may
 -- still be released: the clock plus 1 once the releases for the clock are over (the slack that is answered),
 -- the clock itself while they may still come (the early reckoning).
-use Prim.Native.Nat.{ℕ, zero, suc, _+_, _-_, _*_, max}
+use Prim.Native.Nat.{ℕ, suc, _+_, _-_, _*_, max}
 use mathlib.Core.List.{List, [], _∷_}
 use lib.ListN.{length, getD, take}
 use Rattle.model.specs.Searches.{greatest, lowest}

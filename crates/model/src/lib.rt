@@ -15,6 +15,7 @@ pub use errands::Errand;
 pub use laws::every_run_keeps_the_promise;
 pub use laws::kept_always;
 pub use laws::machine_examples;
+pub use laws::totals_balance;
 pub use refusals::Refusal;
 pub use rows::Row;
 pub use rows::RowCall;

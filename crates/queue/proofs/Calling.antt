@@ -3,9 +3,9 @@ use Prim.Native.Nat.{ℕ, zero, suc, _+_, _-_, _<_, _≤_}
 use native.Mathlib.Numerals.{sub-one}
 use native.Mathlib.Omega.{arith}
 use mathlib.Core.Path.{_≡_, refl, sym, ap, subst, _∙_}
-use mathlib.Core.Bool.{Bool, true, false, cond}
+use mathlib.Core.Bool.{true, false, cond}
 use mathlib.Core.List.{List, [], _∷_}
-use lib.Dec.{leb, eqb}
+use lib.Dec.{eqb}
 use lib.ListN.{length, getD, set, drop, length-map}
 use Rattle.std.specs.Finite.{nth}
 use Rattle.std.specs.Holes.{removed}
@@ -15,12 +15,12 @@ use Rattle.std.specs.declared.option.Option.the-variants.{Some, None}
 use Rattle.std.specs.declared.result.Result.{Result}
 use Rattle.std.specs.declared.result.Result.the-variants.{Ok, Err}
 use Rattle.std.proofs.shelf.Lists.{at-drop-more}
-use Rattle.std.proofs.shelf.Tests.{cond-true, cond-false, cond-both, le-leb, lt-leb, le-ltb, leb-true, not-from-false, and-from, and-parts, eq-eqb, ne-eqb, both-ways}
-use Rattle.model.specs.Queues.{Meaning, Put, Spend, Take, Changes, look, distinct, errand-within, one-less}
+use Rattle.std.proofs.shelf.Tests.{cond-true, cond-false, le-leb, lt-leb, le-ltb, leb-true, not-from-false, and-from, and-parts, eq-eqb, ne-eqb, both-ways}
+use Rattle.model.specs.Queues.{Put, Spend, Take, Changes, look, distinct, errand-within, one-less}
 use Rattle.model.specs.Refusals.{told}
 use Rattle.model.specs.declared.errands.Errand.{Errand}
 use Rattle.model.specs.declared.refusals.Refusal.{Refusal}
-use Rattle.list.specs.Held.{held, places, Becomes, Inserts}
+use Rattle.list.specs.Held.{held, Becomes, Inserts}
 use Rattle.list.specs.Order.{same-rank}
 use Rattle.list.specs.declared.ordered.OrderedList.{OrderedList}
 use Rattle.queue.specs.Lines.{errands, line-meaning, ranks, place-of, first-number, spent, without, LinesUp}
@@ -28,7 +28,7 @@ use Rattle.queue.specs.Slots.{with-units}
 use Rattle.queue.specs.declared.slots.Slot.{Slot}
 use Rattle.queue.proofs.Lookups.{look-at-place, look-number, some-within, first-once}
 use Rattle.queue.proofs.Changing.{look-first, none-apart, none-behind}
-use Rattle.queue.proofs.Meanings.{refused-waits, refused-full, refused-not, placed-changes, removed-changes, first-changes}
+use Rattle.queue.proofs.Meanings.{refused-full, refused-not, placed-changes, removed-changes, first-changes}
 
 -- The place of a number, sought from the front: it stands at i, or is one further on than in what is left.
 pub number-found : (ss : List Slot) (n i : ℕ) (s : Slot) → i < length ss → s ≡ getD ss i s → s .errand .number ≡ n →

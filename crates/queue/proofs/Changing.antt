@@ -2,21 +2,20 @@
 -- still waits once.
 use Prim.Native.Nat.{ℕ, zero, suc}
 use mathlib.Core.Path.{_≡_, refl, sym, ap, _∙_}
-use mathlib.Core.Logic.{⊎-elim}
-use mathlib.Core.Bool.{Bool, true, false, cond}
+use mathlib.Core.Bool.{Bool, true, cond}
 use mathlib.Core.List.{List, [], _∷_}
 use lib.Dec.{eqb}
 use Rattle.std.specs.Finite.{nth}
 use Rattle.std.specs.Holes.{removed}
 use Rattle.std.specs.Options.{isSome}
 use Rattle.std.specs.declared.option.Option.the-variants.{Some, None}
-use Rattle.std.proofs.shelf.Tests.{cond-both, cond-false, cond-true, eq-eqb, ne-eqb, eqb-true, eqb-false, cases-bool, both-ways}
+use Rattle.std.proofs.shelf.Tests.{cond-both, cond-false, cond-true, eq-eqb, ne-eqb, both-ways}
 use Rattle.model.specs.Queues.{look, distinct, errand-within}
 use Rattle.model.specs.declared.errands.Errand.{Errand}
 use Rattle.list.specs.Order.{placed}
 use Rattle.queue.specs.Lines.{errands}
 use Rattle.queue.specs.declared.slots.Slot.{Slot}
-use Rattle.queue.proofs.Lookups.{FirstOnce, first-once, once-more}
+use Rattle.queue.proofs.Lookups.{first-once, once-more}
 
 -- A number that waits nowhere is not the first errand's, and does not wait behind it.
 pub none-apart : (e : Errand) (es : List Errand) (n : ℕ) → look (e ∷ es) n ≡ None → e .number ≡ n → ⊥

@@ -1,12 +1,10 @@
 -- Slots that join a line in order of arrival: which is first, and what becomes of the line as slots change or leave.
-use Prim.Native.Nat.{ℕ, _-_, _≤_}
-use native.Mathlib.Omega.{arith}
-use mathlib.Core.Path.{_≡_, refl, sym, ap, subst, _∙_}
+use Prim.Native.Nat.{ℕ, _-_}
+use mathlib.Core.Path.{_≡_, refl, sym, ap, _∙_}
 use mathlib.Core.Logic.{⊎-elim}
 use mathlib.Core.Bool.{Bool, true, false, cond, _&&_}
 use mathlib.Core.List.{List, [], _∷_, _++_, append-nil, append-assoc}
 use lib.Dec.{leb, eqb}
-use Rattle.std.specs.Finite.{nth}
 use Rattle.std.specs.Options.{isSome}
 use Rattle.std.specs.declared.option.Option.{Option}
 use Rattle.std.specs.declared.option.Option.the-variants.{Some, None}
@@ -19,7 +17,7 @@ use Rattle.model.specs.declared.refusals.Refusal.{Refusal}
 use Rattle.list.specs.Held.{held}
 use Rattle.list.specs.declared.ordered.OrderedList.{OrderedList}
 use Rattle.list.specs.Order.{none-before, sorted, placed}
-use Rattle.list.proofs.Sorting.{Strict, Chain, placed-keeps-sorted}
+use Rattle.list.proofs.Sorting.{placed-keeps-sorted}
 use Rattle.queue.specs.Lines.{errands, line-meaning, ranks, first-number, spent, without, LinesUp}
 use Rattle.queue.specs.Ratings.{outrates}
 use Rattle.queue.specs.Slots.{Holds, with-units}

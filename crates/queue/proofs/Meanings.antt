@@ -1,17 +1,15 @@
 -- What becomes of a line's meaning as its slots change.
 use Prim.Native.Nat.{ℕ, zero, suc, _-_, _<_, _≤_}
-use native.Mathlib.Omega.{arith}
-use mathlib.Core.Path.{_≡_, refl, sym, ap, subst, _∙_}
-use mathlib.Core.Bool.{Bool, true, false, cond, not}
-use mathlib.Core.List.{List, [], _∷_, map}
-use lib.Dec.{leb}
-use lib.ListN.{length, set, length-map}
+use mathlib.Core.Path.{_≡_, refl, sym, ap, _∙_}
+use mathlib.Core.Bool.{true}
+use mathlib.Core.List.{List, [], _∷_}
+use lib.ListN.{length}
 use Rattle.std.specs.Finite.{nth}
 use Rattle.std.specs.Holes.{removed}
 use Rattle.std.specs.Options.{isSome}
 use Rattle.std.specs.declared.option.Option.the-variants.{Some, None}
-use Rattle.std.proofs.shelf.Tests.{cond-true, cond-false, lt-leb, le-leb, not-from-true, not-from-false, and-from, ne-eqb}
-use Rattle.model.specs.Queues.{Meaning, Changes, look, distinct, errand-within, put-refusal, one-less}
+use Rattle.std.proofs.shelf.Tests.{cond-true, cond-false, lt-leb, le-leb, not-from-true}
+use Rattle.model.specs.Queues.{Meaning, Changes, look, distinct, errand-within, put-refusal}
 use Rattle.model.specs.declared.errands.Errand.{Errand}
 use Rattle.list.specs.Held.{held, places, Becomes}
 use Rattle.list.specs.Order.{placed}
@@ -23,9 +21,6 @@ use Rattle.queue.proofs.Lookups.{first-once, once-more}
 use Rattle.queue.proofs.Changing.{placed-once, look-placed-same, look-placed-other, removed-once, look-removed-same, look-removed-other, look-first, none-past}
 
 -- Which number refuses a put.
-pub refused-limits : (m : Meaning) (e : Errand) → errand-within e ≡ false → put-refusal m e ≡ 8 ∷ []
-refused-limits m e h = cond-true _ _ _ (not-from-false _ h)
-
 pub refused-waits : (m : Meaning) (e : Errand) → errand-within e ≡ true → isSome (look (m .waiting) (e .number)) ≡ true →
     put-refusal m e ≡ 9 ∷ []
 refused-waits m e h k = cond-false _ _ _ (not-from-true _ h) ∙ cond-true _ _ _ k

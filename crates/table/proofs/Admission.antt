@@ -1,20 +1,13 @@
 -- The cases of an insertion, one for each refusal and one for none, and that an accepted one leaves an admitted
 -- table.
-use Prim.Native.Nat.{ℕ, zero, suc, _+_, _≤_, _<_}
-use mathlib.Core.Path.{_≡_, refl, sym, ap, _∙_}
-use mathlib.Core.Bool.{Bool, true, false, cond, not, _&&_}
+use Prim.Native.Nat.{ℕ, zero, suc, _≤_, _<_}
+use mathlib.Core.Path.{_≡_, refl, ap, _∙_}
+use mathlib.Core.Bool.{true, false, not}
 use mathlib.Core.List.{List, [], _∷_, _++_}
-use native.Mathlib.Omega.{arith}
-use lib.Dec.{leb, ltb}
-use lib.ListN.{length, take, drop, length-take, length-drop, length-append}
+use lib.ListN.{length, take, drop}
 use Rattle.std.specs.Holes.{inserted}
-use Rattle.std.specs.Options.{isSome}
-use Rattle.std.specs.declared.option.Option.{Option}
-use Rattle.std.specs.declared.option.Option.the-variants.{Some, None}
-use Rattle.std.proofs.shelf.Edits.{length-inserted}
-use Rattle.std.proofs.shelf.Tests.{and-from, and-parts, cond-false, cond-true, false≢true, le-leb, le-ltb, leb-true, lt-leb, lt-ltb, not-false}
-use Rattle.model.proofs.Searches.{none-passes}
-use Rattle.model.specs.Table.{add-refusal, admitted, after-add, all-within, first-late, late, response, unschedulable, within-limits}
+use Rattle.std.proofs.shelf.Tests.{and-from, and-parts, cond-false, cond-true, le-leb, le-ltb, lt-leb, lt-ltb}
+use Rattle.model.specs.Table.{add-refusal, after-add, all-within, first-late, unschedulable, within-limits}
 use Rattle.model.specs.declared.duties.Duty.{Duty}
 use Rattle.table.proofs.Limits.{within-take}
 
@@ -59,27 +52,3 @@ pub within-inserted : (table : List Duty) (place : ℕ) (d : Duty)
 within-inserted table place d h good =
     within-append (take place table) (d ∷ drop place table) (within-take place table h)
     (and-from _ _ good (within-drop place table h))
-
-none-from-not : {X : Type 0} (o : Option X) → not (isSome o) ≡ true → o ≡ None
-none-from-not None h = refl
-none-from-not (Some x) h = absurd (false≢true h)
-
--- What `admitted` says.
-pub record Admitted (table : List Duty) : Type 0 where
-  pub few : length table ≤ 16
-  pub within : all-within table ≡ true
-  pub on-time : first-late table ≡ None
-
-pub admitted-says : (table : List Duty) → admitted table ≡ true → Admitted table
-admitted-says table h =
-    let last = and-parts _ _ h in
-    let first = and-parts _ _ (last .0) in
-    record { few = leb-true _ _ (first .0); within = first .1; on-time = none-from-not (first-late table) (last .1) }
-
-pub says-admitted : (table : List Duty) → Admitted table → admitted table ≡ true
-says-admitted table h = and-from _ _ (and-from _ _ (le-leb _ _ (h .few)) (h .within)) (ap (λ o. not (isSome o)) (h .on-time))
-
--- Each row of an admitted table has a response time.
-pub has-response : (table : List Duty) (row : ℕ) → admitted table ≡ true → row < length table → isSome (response table row) ≡ true
-has-response table row h lt =
-    not-false _ (none-passes (late table) 0 (length table) (admitted-says table h .on-time) row (omega arith) (omega arith))

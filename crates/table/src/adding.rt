@@ -1,9 +1,8 @@
 // Settings: made empty, grown by one duty at a time, and asked for response times.
 ghost use mathlib.Core.Path.{_≡_};
-ghost use mathlib.Core.Bool.{true};
 ghost use mathlib.Core.List.{[]};
-ghost use Prim.Native.Nat.{ℕ, _+_, _≤_, _<_};
-ghost use lib.ListN.{length, take};
+ghost use Prim.Native.Nat.{_+_, _≤_, _<_};
+ghost use lib.ListN.{take};
 ghost use Rattle.std.specs.Holes.{inserted};
 ghost use Rattle.model.specs.Refusals.{refusal};
 ghost use Rattle.model.specs.Table.{add-refusal, after-add, within-limits};

@@ -1,7 +1,7 @@
 // Response-time analysis of a table whose duties are within their limits.
 ghost use mathlib.Core.Path.{_≡_};
 ghost use mathlib.Core.Bool.{true};
-ghost use Prim.Native.Nat.{ℕ, _+_, _<_, _≤_};
+ghost use Prim.Native.Nat.{_+_, _<_, _≤_};
 ghost use lib.ListN.{length};
 ghost use Rattle.model.specs.Table.{busy, ceil, response, first-late, all-within, suffices};
 use model::Duty;

@@ -1,32 +1,23 @@
 -- The rows of a kept machine seen from its clock: releases and windows lie ahead, so what the rows ask for from the
 -- clock on is the demand of the definition.
-use Prim.Native.Nat.{ℕ, zero, suc, _+_, _-_, _*_, max, _≤_, _<_}
+use Prim.Native.Nat.{ℕ, zero, suc, _+_, _-_, _*_, _≤_, _<_}
 use mathlib.Core.Path.{_≡_, refl, ap, subst}
 use mathlib.Core.Bool.{true}
 use mathlib.Core.List.{List, [], _∷_}
 use native.Mathlib.Omega.{arith}
-use lib.Dec.{leb}
 use lib.ListN.{length, getD, take}
-use Rattle.std.proofs.shelf.Tests.{and-from, and-parts, le-leb, leb-true}
-use Rattle.model.proofs.Admitted.{Limits, admitted-limits, limits-of}
+use Rattle.std.proofs.shelf.Tests.{and-from, le-leb}
+use Rattle.model.proofs.Admitted.{Limits, admitted-limits, admitted-says, limits-of, within-at}
 use Rattle.model.proofs.Timely.{kept-before-due}
 use Rattle.model.proofs.Keeping.{Row-numbers, kept-gives, row-kept-from, row-kept-gives}
 use Rattle.model.specs.Kept.{kept, row-kept}
 use Rattle.model.specs.Reckoning.{demand, left-of, need, next-release, row-at, window-end}
-use Rattle.model.specs.Table.{admitted, all-within, ceil, duty-at, within-limits}
+use Rattle.model.specs.Table.{admitted, ceil, duty-at, within-limits}
 use Rattle.model.specs.declared.duties.Duty.{Duty}
 use Rattle.model.specs.declared.rows.Row.{Row}
 use Rattle.model.specs.declared.rows.Row.the-variants.{Idle, Ready}
 use Rattle.workload.specs.Streams.{all-ask, all-tame, asks, stream-of, streams-of, tame}
 use Rattle.workload.specs.declared.streams.Stream.{Stream}
-
-pub admitted-few : (table : List Duty) → admitted table ≡ true → length table ≤ 16
-admitted-few table ok = leb-true _ _ (and-parts (leb (length table) 16) (all-within table) (and-parts _ _ ok .0) .0)
-
-within-at : (table : List Duty) (i : ℕ) → all-within table ≡ true → i < length table → within-limits (duty-at table i) ≡ true
-within-at [] i h lt = absurd (omega arith)
-within-at (duty ∷ table) zero h lt = and-parts _ _ h .0
-within-at (duty ∷ table) (suc i) h lt = within-at table i (and-parts _ _ h .1) (omega arith)
 
 -- What is known of one row: its duty's limits, its numbers, and that its next release and the end of its window lie
 -- ahead.
@@ -54,7 +45,7 @@ module _ (clock : ℕ) (table : List Duty) (rows : List Row) (ok : admitted tabl
   pub row-ahead : (i : ℕ) → i < length table → Row-ahead clock (duty-at table i) (row-at rows i)
   row-ahead i lt =
       record {
-        limits = within-at table i (and-parts _ _ (and-parts _ _ ok .0) .1) lt;
+        limits = within-at table (admitted-says table ok .within) i lt;
         numbers = row-kept-from clock (duty-at table i) (row-at rows i) (kept-gives clock table rows keeps .numbers .each i lt);
         release-ahead = release-lies i (row-at rows i) lt refl;
         window-ahead = window-lies i (row-at rows i) lt refl;

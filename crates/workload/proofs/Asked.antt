@@ -1,10 +1,9 @@
 -- A call to one row of the slots: what it leaves in the rows, and that they are still kept.
-use Prim.Native.Nat.{ℕ, zero, suc, _+_, _≤_, _<_}
+use Prim.Native.Nat.{ℕ, zero, suc, _≤_, _<_}
 use mathlib.Core.Path.{_≡_, refl, sym, ap, _∙_}
-use mathlib.Core.Bool.{true, cond}
+use mathlib.Core.Bool.{true}
 use mathlib.Core.List.{List, [], _∷_}
 use native.Mathlib.Omega.{arith}
-use lib.Dec.{ltb}
 use lib.ListN.{length, getD, set, take}
 use Rattle.std.specs.declared.result.Result.{Result}
 use Rattle.std.specs.declared.result.Result.the-variants.{Ok, Err}
@@ -14,9 +13,9 @@ use Rattle.model.proofs.Accepting.{call-keeps}
 use Rattle.model.proofs.Keeping.{kept-gives}
 use Rattle.model.proofs.Told.{told-some}
 use Rattle.model.specs.Kept.{kept}
-use Rattle.model.specs.Machine.{call-refusal, row-after, row-refusal, rows-after}
+use Rattle.model.specs.Machine.{call-refusal, row-refusal, rows-after}
 use Rattle.model.specs.Reckoning.{no-row, row-at}
-use Rattle.model.specs.Refusals.{refusal, told}
+use Rattle.model.specs.Refusals.{refusal}
 use Rattle.model.specs.Table.{admitted, duty-at}
 use Rattle.model.specs.declared.duties.Duty.{Duty}
 use Rattle.model.specs.declared.refusals.Refusal.{Refusal}

@@ -1,6 +1,6 @@
 -- Stretches of a window: how far the ticks stay busy, and how far they stay idle.
-use Prim.Native.Nat.{ℕ, zero, suc, _+_, _-_, _≤_, _<_}
-use mathlib.Core.Path.{_≡_, refl, ap, _∙_}
+use Prim.Native.Nat.{ℕ, zero, suc, _+_, _-_, _≤_}
+use mathlib.Core.Path.{_≡_, _∙_}
 use native.Mathlib.Omega.{arith}
 use Rattle.model.specs.Idle.{idle-ticks}
 use Rattle.model.proofs.Slack.{Rising, idle-more, idle-same}

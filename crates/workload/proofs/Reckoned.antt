@@ -1,11 +1,10 @@
 -- The idle ticks of the streams of rows 0 to i are the slack of row i.
 use Prim.Native.Nat.{ℕ, zero, suc, _+_, _-_, _≤_, _<_}
 use mathlib.Core.Path.{_≡_, refl, sym, ap, _∙_}
-use mathlib.Core.Bool.{true, cond}
+use mathlib.Core.Bool.{true}
 use mathlib.Core.List.{List}
 use mathlib.Core.Logic.{⊎-elim}
 use native.Mathlib.Omega.{arith}
-use lib.Dec.{leb}
 use lib.ListN.{length, take}
 use Rattle.std.proofs.shelf.Lists.{take-take}
 use Rattle.std.proofs.shelf.Tests.{cases-lt}

@@ -1,8 +1,7 @@
 -- A tick that goes to the duties: who has it, what it leaves in the rows, and that they are still kept.
-use Prim.Native.Nat.{ℕ, _+_, _≤_, _<_}
-use mathlib.Core.Path.{_≡_, refl, sym, ap, _∙_}
+use Prim.Native.Nat.{ℕ, _+_, _<_}
+use mathlib.Core.Path.{_≡_, sym, ap, _∙_}
 use mathlib.Core.Bool.{true}
-use mathlib.Core.List.{List, []}
 use native.Mathlib.Omega.{arith}
 use lib.ListN.{length, getD, set, take}
 use Rattle.std.specs.declared.option.Option.the-variants.{Some, None}
@@ -11,7 +10,7 @@ use Rattle.model.proofs.Searches.{least-found}
 use Rattle.model.proofs.Ticks.{duty-tick-keeps, run-accepted}
 use Rattle.model.specs.Kept.{kept}
 use Rattle.model.specs.Machine.{duty-tick, first-ready, ready-at, rows-after}
-use Rattle.model.specs.Reckoning.{no-row, row-at}
+use Rattle.model.specs.Reckoning.{no-row}
 use Rattle.model.specs.Table.{duty-at}
 use Rattle.model.specs.declared.rows.RowCall.the-variants.{Run}
 use Rattle.workload.proofs.Asked.{accepted-rows, row-answers}

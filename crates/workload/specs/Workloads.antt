@@ -1,5 +1,4 @@
 -- What a workload holds.
-use Prim.Native.Nat.{ℕ}
 use mathlib.Core.List.{List}
 use lib.ListN.{length, take}
 use Rattle.model.specs.declared.duties.Duty.{Duty}

@@ -1,6 +1,5 @@
 // A workload begins fresh, and goes on by releases, dones and ticks.
 ghost use mathlib.Core.Path.{_≡_};
-ghost use mathlib.Core.Bool.{Bool};
 ghost use lib.ListN.{length, replicate};
 ghost use Prim.Native.Nat.{_+_, _<_};
 ghost use Rattle.model.specs.Machine.{duty-tick, first-ready, last-clock, rows-after};

@@ -1,10 +1,10 @@
 // The exact slack of a workload.
 ghost use mathlib.Core.Path.{_≡_};
 ghost use mathlib.Core.Bool.{true};
-ghost use Prim.Native.Nat.{ℕ, _+_, _-_, _<_, _≤_};
+ghost use Prim.Native.Nat.{_+_, _-_, _≤_};
 ghost use lib.ListN.{length, take};
 ghost use Rattle.model.specs.Kept.{kept, row-kept};
-ghost use Rattle.model.specs.Reckoning.{next-release, row-slack, table-slack, window-end};
+ghost use Rattle.model.specs.Reckoning.{next-release, table-slack, window-end};
 ghost use Rattle.model.specs.Table.{admitted, within-limits};
 ghost use Rattle.workload.specs.Streams.{stream-of, streams-of};
 ghost use Rattle.workload.specs.Workloads.{rows-in, table-in};

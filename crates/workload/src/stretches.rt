@@ -1,10 +1,9 @@
 // Idle ticks of a window, reckoned by stretches: longest runs of busy or of idle ticks.
 ghost use mathlib.Core.Path.{_≡_};
 ghost use mathlib.Core.Bool.{true};
-ghost use Prim.Native.Nat.{ℕ, _+_, _-_, _<_, _≤_};
+ghost use Prim.Native.Nat.{_+_, _-_, _≤_};
 ghost use lib.ListN.{length};
 ghost use Rattle.model.specs.Idle.{idle-ticks};
-ghost use Rattle.model.specs.Table.{ceil};
 ghost use Rattle.workload.specs.Streams.{all-ask, all-tame, asks, tame};
 use crate::streams::Stream;
 

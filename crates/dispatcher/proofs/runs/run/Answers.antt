@@ -1,16 +1,15 @@
-use mathlib.Core.Path.{_≡_, refl, sym, ap, subst, _∙_}
-use mathlib.Core.List.{List, [], _∷_, _++_}
-use Prim.Native.Nat.{ℕ, _+_, _<_}
+use mathlib.Core.Path.{refl, sym, subst, _∙_}
+use mathlib.Core.List.{List}
+use Prim.Native.Nat.{_<_}
 use native.Mathlib.Omega.{arith}
-use lib.ListN.{length, getD, set, take}
+use lib.ListN.{length, getD}
 use Rattle.std.proofs.shelf.Lists.{take-all}
 use Rattle.model.proofs.Promise.{every-run-keeps-the-promise}
 use Rattle.model.specs.Machine.{State, Step, fresh}
-use Rattle.model.specs.Promise.{Promise}
 use Rattle.model.specs.Runs.{Run, Trace, stay}
 use Rattle.model.specs.declared.duties.Duty.{Duty}
 use Rattle.table.specs.Settings.{table-of}
-use Rattle.dispatcher.proofs.Scripted.{answered, calls-stay, no-entry, run-more, trace-more}
+use Rattle.dispatcher.proofs.Scripted.{calls-stay, no-entry, run-more, trace-more}
 use Rattle.dispatcher.specs.Scripts.{trace-of}
 use Rattle.dispatcher.specs.Views.{duties, view}
 use Rattle.dispatcher.specs.declared.entries.Entry.{Entry}

@@ -5,7 +5,7 @@ use Rattle.std.specs.declared.result.Result.the-variants.{Ok}
 use Rattle.model.specs.Queues.{Take}
 use Rattle.model.specs.declared.refusals.Refusal.the-variants.{NotWaiting}
 use Rattle.list.specs.Held.{held, Becomes}
-use Rattle.queue.specs.Lines.{errands, line-meaning, place-of, without}
+use Rattle.queue.specs.Lines.{errands, line-meaning, place-of}
 use Rattle.queue.proofs.Calling.{take-found, take-missing, without-is}
 use Rattle.queue.proofs.lines.take_out.Needs as need
 

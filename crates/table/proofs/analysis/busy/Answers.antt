@@ -1,10 +1,11 @@
 use mathlib.Core.Path.{_≡_, ap}
-use Prim.Native.Nat.{ℕ, _+_, _*_, _≤_, _<_}
+use Prim.Native.Nat.{ℕ, _+_, _*_}
 use native.Mathlib.Omega.{arith}
 use lib.ListN.{drop, getD}
 use Rattle.std.proofs.shelf.Lists.{at-drop-all}
 use Rattle.model.specs.Table.{busy, ceil, no-duty}
-use Rattle.table.proofs.Limits.{busy-at-most, busy-drop, limits-at}
+use Rattle.model.proofs.Admitted.{limits-at}
+use Rattle.table.proofs.Limits.{busy-at-most, busy-drop}
 use Rattle.table.proofs.analysis.busy.Needs as need
 
 -- What the turn adds, and the sum that remains to be added.
@@ -21,7 +22,7 @@ turn c =
 
 pub ceil-requires : need.ceil-requires
 ceil-requires c κs =
-    let l = limits-at (c .args .rows .now) (c .loop-duty .duty-index) no-duty (c .pre .0) (omega arith) in
+    let l = limits-at (c .args .rows .now) (c .pre .0) (c .loop-duty .duty-index) (omega arith) in
     (omega arith, (omega arith, omega arith))
 
 pub mul-sum : need.mul-sum

@@ -1,17 +1,16 @@
 use mathlib.Core.Path.{_≡_, sym, _∙_}
-use mathlib.Core.Bool.{true, false}
-use mathlib.Core.Logic.{⊎-elim}
-use Prim.Native.Nat.{ℕ, _+_, _≤_, _<_}
+use mathlib.Core.Bool.{false}
+use Prim.Native.Nat.{_≤_}
 use native.Mathlib.Omega.{arith}
 use borrow.Author.Count.{below-more}
 use Rattle.model.proofs.Searches.{least-is, least-none}
-use Rattle.model.specs.Table.{no-duty, suffices}
-use Rattle.table.proofs.Limits.{limits-at}
+use Rattle.model.specs.Table.{suffices}
+use Rattle.model.proofs.Admitted.{limits-at}
 use Rattle.table.proofs.analysis.response_time.Needs as need
 
 pub suffices-requires : need.suffices-requires
 suffices-requires c κs =
-    let l = limits-at (c .args .table .now) (c .args .row) no-duty (c .pre .0) (c .pre .1 .1) in
+    let l = limits-at (c .args .table .now) (c .pre .0) (c .args .row) (c .pre .1 .1) in
     (c .pre .0, (c .pre .1 .0, (c .pre .1 .1, omega arith)))
 
 pub returns-then-suffices : need.returns-then-suffices
@@ -30,7 +29,7 @@ returns c =
 
 pub add·ticks : need.add·ticks
 add·ticks c =
-    let l = limits-at (c .args .table .now) (c .args .row) no-duty (c .pre .0) (c .pre .1 .1) in
+    let l = limits-at (c .args .table .now) (c .pre .0) (c .args .row) (c .pre .1 .1) in
     omega arith
 
 pub returns-else-suffices : need.returns-else-suffices

@@ -1,10 +1,11 @@
-use mathlib.Core.Path.{_≡_, sym, _∙_}
+use mathlib.Core.Path.{sym, _∙_}
 use Prim.Native.Nat.{_<_}
 use native.Mathlib.Omega.{arith}
 use lib.ListN.{length, length-take}
 use Rattle.std.proofs.shelf.Lists.{ext-getD, getD-take}
+use Rattle.model.proofs.Admitted.{admitted-says}
 use Rattle.model.proofs.Keeping.{kept-gives}
-use Rattle.workload.proofs.Ahead.{admitted-few, row-ahead, streams-at, streams-length}
+use Rattle.workload.proofs.Ahead.{row-ahead, streams-at, streams-length}
 use Rattle.workload.proofs.Tame.{no-stream}
 use Rattle.workload.proofs.slack.streams.Needs as need
 
@@ -21,7 +22,7 @@ returns c =
     let table = c .args .duties .now in
     let same = kept-gives (c .args .clock) table (c .args .rows .now) (c .pre .1) .numbers .same-length in
     let long = streams-length (c .args .clock) table (c .args .rows .now) same in
-    let few = admitted-few table (c .pre .0) in
+    let few = admitted-says table (c .pre .0) .few in
     ext-getD no-stream _ _
     (simp length-take (omega (arith, long, c .loop-i .inv .0)))
     (λ k lt.

@@ -1,15 +1,14 @@
-use mathlib.Core.Path.{_≡_, sym, ap, _∙_}
-use mathlib.Core.Bool.{true}
-use mathlib.Core.List.{List}
-use Prim.Native.Nat.{ℕ, suc, _+_, _-_, _≤_, _<_, min}
+use mathlib.Core.Path.{_≡_, ap, _∙_}
+use Prim.Native.Nat.{ℕ, suc, _+_, _-_, _≤_, min}
 use native.Mathlib.Omega.{arith}
 use borrow.Author.Needs.{needs}
 use lib.ListN.{length, take}
 use Rattle.std.proofs.shelf.Lists.{length-take}
+use Rattle.model.proofs.Admitted.{admitted-says}
 use Rattle.model.proofs.Keeping.{kept-gives}
 use Rattle.model.specs.Idle.{idle-ticks}
 use Rattle.model.specs.Reckoning.{row-slack}
-use Rattle.workload.proofs.Ahead.{admitted-few, row-ahead, streams-length, streams-tame}
+use Rattle.workload.proofs.Ahead.{row-ahead, streams-tame}
 use Rattle.workload.proofs.Minimum.{least-of, least-of-more, least-of-rows}
 use Rattle.workload.proofs.Reckoned.{cut-streams, idle-at-most, idle-is-slack}
 use Rattle.workload.proofs.Tame.{all-ask-rising, tame-take}
@@ -28,7 +27,7 @@ window-end-requires c κs =
 pub part-idle-ticks-end : need.part-idle-ticks-end
 part-idle-ticks-end c =
     let same = kept-gives (c .args .clock) (c .args .duties .now) (c .args .rows .now) (c .pre .1) .numbers .same-length in
-    let few : c .loop-i .i + 1 ≤ 16 = omega (arith, admitted-few (c .args .duties .now) (c .pre .0)) in
+    let few : c .loop-i .i + 1 ≤ 16 = omega (arith, admitted-says (c .args .duties .now) (c .pre .0) .few) in
     search needs
 
 pub idle-ticks-requires : need.idle-ticks-requires
@@ -38,7 +37,7 @@ idle-ticks-requires c κs =
     let cut = cut-streams (c .args .clock) table (c .args .rows .now) (c .streams-streams .result) (c .pre .0) (c .pre .1) (c .streams-streams .ensures) (c .loop-i .i) (omega arith) in
     let tame = streams-tame (c .args .clock) table (c .args .rows .now) same (row-ahead (c .args .clock) table (c .args .rows .now) (c .pre .0) (c .pre .1)) in (
       ap all-tame cut ∙ tame-take (suc (c .loop-i .i)) (streams-of (c .args .clock) table (c .args .rows .now)) tame,
-      (simp length-take (omega (arith, admitted-few table (c .pre .0))), c .window-end .ensures .bound),
+      (simp length-take (omega (arith, admitted-says table (c .pre .0) .few)), c .window-end .ensures .bound),
     )
 
 pub loop-i-again : need.loop-i-again

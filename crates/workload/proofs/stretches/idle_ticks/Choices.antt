@@ -1,4 +1,4 @@
-use Prim.Native.Nat.{ℕ, _-_, _≤_}
+use Prim.Native.Nat.{_-_, _≤_}
 use mathlib.Core.Path.{_≡_}
 use Rattle.model.specs.Idle.{idle-ticks}
 use Rattle.workload.specs.Streams.{all-ask}

@@ -1,8 +1,8 @@
 use native.Mathlib.Omega.{arith}
-use Prim.Native.Nat.{_+_, _-_, _*_, _≤_}
+use Prim.Native.Nat.{_-_, _*_, _≤_}
 use Rattle.model.specs.Table.{ceil}
 use Rattle.model.proofs.Ceil.{ceil-covers}
-use Rattle.workload.proofs.Tame.{asks-until-first, asks-until-next, tame-says}
+use Rattle.workload.proofs.Tame.{asks-until-next, tame-says}
 use Rattle.workload.proofs.stretches.next_job.Needs as need
 
 pub returns : need.returns

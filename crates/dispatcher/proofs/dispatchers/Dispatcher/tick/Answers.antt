@@ -1,7 +1,6 @@
-use mathlib.Core.Path.{_≡_, ap, subst, _∙_}
+use mathlib.Core.Path.{subst}
 use mathlib.Core.Bool.{_&&_}
 use lib.Dec.{leb}
-use Rattle.std.specs.Options.{isSome}
 use Rattle.workload.specs.Acts.{Turns, slack-in}
 use Rattle.workload.specs.Workloads.{rows-in}
 use Rattle.workload.specs.declared.turns.Turn.{Turn}
@@ -15,14 +14,14 @@ returns-in-Duty g c =
     let w′ = c .tick .last .self in
     let q = c .args .self .now .queue in
     let turns =
-    subst (λ (turn : Turn). Turns (c .is-some-errand-waits .result && leb 1 (slack-in w)) w turn (rows-in w′)) (c .in-Duty .is) (ticked .3) in
+    subst (λ (turn : Turn). Turns (c .errand-waits-errand-waits .result && leb 1 (slack-in w)) w turn (rows-in w′)) (c .in-Duty .is) (ticked .3) in
     record {
       step = (
         ticked .0,
         ticked .1,
         ticked .2,
-        duty-turns w w′ (g .Q·Queue .meaning q) (g .Q·Queue .sound q) (c .is-some-errand-waits .result)
-            (c .is-some-errand-waits .ensures ∙ ap isSome (c .name .ensures)) (c .in-Duty .row) turns,
+        duty-turns w w′ (g .Q·Queue .meaning q) (c .errand-waits-errand-waits .result) (c .errand-waits-errand-waits .ensures)
+            (c .in-Duty .row) turns,
       );
       table = ticked .4;
     }

@@ -11,7 +11,8 @@ use Rattle.std.proofs.shelf.Edits.{length-inserted}
 use Rattle.model.specs.Table.{add-refusal, admitted, all-within, first-late, unschedulable, within-limits}
 use Rattle.model.specs.declared.duties.Duty.{Duty}
 use Rattle.table.specs.declared.settings.Setting.{Setting}
-use Rattle.table.proofs.Admission.{accepted-leaves, admitted-says, by-analysis, refused-full, refused-leaves, refused-limits, refused-place, says-admitted, within-inserted}
+use Rattle.model.proofs.Admitted.{admitted-says, says-admitted}
+use Rattle.table.proofs.Admission.{accepted-leaves, by-analysis, refused-full, refused-leaves, refused-limits, refused-place, within-inserted}
 use Rattle.table.specs.Settings.{table-of}
 use Rattle.table.proofs.settings.Setting.add.Needs as need
 

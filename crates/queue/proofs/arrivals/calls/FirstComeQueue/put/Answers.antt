@@ -1,4 +1,4 @@
-use mathlib.Core.Path.{_≡_, subst, sym, ap, _∙_}
+use mathlib.Core.Path.{_≡_, subst, ap, _∙_}
 use mathlib.Core.Bool.{true}
 use Rattle.model.specs.Queues.{Put, errand-within}
 use Rattle.queue.specs.Lines.{line-meaning}

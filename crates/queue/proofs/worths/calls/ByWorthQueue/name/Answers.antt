@@ -1,4 +1,4 @@
-use mathlib.Core.Path.{_≡_, ap, _∙_}
+use mathlib.Core.Path.{ap, _∙_}
 use Rattle.list.specs.Held.{held}
 use Rattle.queue.specs.Lines.{errands, first-number}
 use Rattle.queue.proofs.Joining.{first-is-best, stands-for-itself}
