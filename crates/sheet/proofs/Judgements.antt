@@ -7,8 +7,8 @@ use Rattle.std.specs.declared.option.Option.{Option}
 use Rattle.std.specs.declared.option.Option.the-variants.{Some, None}
 use Rattle.std.specs.declared.result.Result.{Result}
 use Rattle.std.specs.declared.result.Result.the-variants.{Ok, Err}
-use Rattle.sheet.specs.Faults.{judged}
-use Rattle.sheet.specs.declared.faults.Fault.{Fault}
+use Rattle.forms.specs.Faults.{judged}
+use Rattle.forms.specs.declared.faults.Fault.{Fault}
 
 module _ {X Y : Type 0} (x : X) (y : Y) where
   -- A fault of the first list counts.

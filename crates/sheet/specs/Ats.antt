@@ -6,10 +6,10 @@ use lib.ListN.{take, drop}
 use Rattle.std.specs.declared.option.Option.{Option}
 use Rattle.std.specs.declared.option.Option.the-variants.{Some, None}
 use Rattle.model.specs.declared.calls.Call.{Call}
-use Rattle.sheet.specs.Items.{inside, items, items-left}
-use Rattle.sheet.specs.Sayings.{call}
+use Rattle.forms.specs.Items.{inside, items, items-left}
+use Rattle.forms.specs.Sayings.{call}
 use Rattle.sheet.specs.declared.ats.Calls.{Calls}
-use Rattle.sheet.specs.declared.sayings.At.{At}
+use Rattle.sheet.specs.declared.ats.At.{At}
 
 -- The bytes of an at-line.
 abbrev pub at-part : List ℕ → At → List ℕ

@@ -12,20 +12,21 @@ use Rattle.std.specs.declared.result.Result.the-variants.{Ok, Err}
 use Rattle.model.specs.Table.{add-refusal, after-add}
 use Rattle.model.specs.declared.duties.Duty.{Duty}
 use Rattle.table.specs.Settings.{table-of}
-use Rattle.sheet.specs.Faults.{fault, judged, table-fault, unless}
-use Rattle.sheet.specs.Lines.{Line}
-use Rattle.sheet.specs.Sayings.{forms-faults, letters-faults, says}
+use Rattle.forms.specs.Faults.{fault, judged, unless}
+use Rattle.sheet.specs.Told.{table-fault}
+use Rattle.forms.specs.Lines.{Line}
+use Rattle.forms.specs.Sayings.{forms-faults, letters-faults, says}
 use Rattle.sheet.specs.declared.drafts.Draft.{Draft}
 use Rattle.sheet.specs.declared.drafts.Stage.{Stage}
 use Rattle.sheet.specs.declared.drafts.Stage.the-variants.{Start, Duties, Ats, Over}
-use Rattle.sheet.specs.declared.faults.Fault.{Fault}
-use Rattle.sheet.specs.declared.faults.Layer.the-variants.{Sheet as Sheet-layer}
-use Rattle.sheet.specs.declared.faults.Place.{Place}
-use Rattle.sheet.specs.declared.sayings.At.{At as At-line}
-use Rattle.sheet.specs.declared.sayings.QueueName.{QueueName}
-use Rattle.sheet.specs.declared.sayings.QueueName.the-variants.{First}
-use Rattle.sheet.specs.declared.sayings.Said.{Said}
-use Rattle.sheet.specs.declared.sayings.Said.the-variants.{Sheet, Duty as Add-duty, Queue, At, End, Remark}
+use Rattle.forms.specs.declared.faults.Fault.{Fault}
+use Rattle.forms.specs.declared.faults.Layer.the-variants.{Sheet as Sheet-layer}
+use Rattle.forms.specs.declared.faults.Place.{Place}
+use Rattle.sheet.specs.declared.ats.At.{At as At-line}
+use Rattle.forms.specs.declared.sayings.QueueName.{QueueName}
+use Rattle.forms.specs.declared.sayings.QueueName.the-variants.{First}
+use Rattle.forms.specs.declared.sayings.Said.{Said}
+use Rattle.forms.specs.declared.sayings.Said.the-variants.{Sheet, Duty as Add-duty, Queue, At, End, Remark}
 
 -- A sheet as far as it is read: how far its lines have come, and what they have set.
 pub record So-far : Type 0 where

@@ -1,5 +1,5 @@
-use crate::sayings::At;
-use crate::sayings::QueueName;
+use crate::ats::At;
+use forms::QueueName;
 use table::Setting;
 
 // How far a sheet has come: which lines may come next.

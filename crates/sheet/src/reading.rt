@@ -2,21 +2,22 @@
 ghost use mathlib.Core.Path.{_≡_};
 ghost use Prim.Native.Nat.{_+_};
 ghost use lib.ListN.{length, take};
-ghost use Rattle.sheet.specs.Faults.{failing, sheet-told, table-told};
-ghost use Rattle.sheet.specs.Lines.{lines-left};
+ghost use Rattle.forms.specs.Faults.{failing};
+ghost use Rattle.sheet.specs.Told.{sheet-told, table-told};
+ghost use Rattle.forms.specs.Lines.{lines-left};
 ghost use Rattle.sheet.specs.Orders.{lines-judged, nothing-read, so-far};
 ghost use Rattle.sheet.specs.Sheets.{end-of, late, of-lines, outcome, sheet-of, too-long, whole};
+use crate::ats::At;
 use crate::drafts::Draft;
 use crate::drafts::Sheet;
 use crate::drafts::Stage;
-use crate::faults::Fault;
-use crate::faults::Place;
 use crate::faults::SheetFault;
 use crate::faults::TableFault;
-use crate::lines::Reader;
 use crate::passing::FaultFromTable;
 use crate::passing::TableFromSheet;
-use crate::sayings::At;
+use forms::Fault;
+use forms::Place;
+use forms::Reader;
 
 // The longest text that is read.
 const LONGEST: usize = 32768;
@@ -87,7 +88,7 @@ fn read_lines(mut reader: Reader) -> Result<Sheet, TableFault>
     while let Some(line) = reader.next() {
         draft.enter(line)?;
     }
-    let sheet = finished(draft, reader.place)?;
+    let sheet = finished(draft, reader.place())?;
     Ok(sheet)
 }
 

@@ -3,13 +3,13 @@ ghost use mathlib.Core.Path.{_≡_};
 ghost use Rattle.table.specs.Settings.{table-of};
 ghost use Rattle.sheet.specs.Ats.{at-part, calls-left, calls-of, Next-call};
 ghost use Rattle.sheet.specs.Sheets.{set-by};
+use crate::ats::At;
 use crate::ats::Calls;
-use crate::calls::call;
 use crate::drafts::Sheet;
-use crate::items::Items;
 use crate::reading::held;
-use crate::sayings::At;
-use crate::sayings::QueueName;
+use forms::Items;
+use forms::QueueName;
+use forms::call;
 use model::Call;
 use table::Setting;
 

@@ -7,7 +7,7 @@ use Rattle.std.specs.shelf.Lists.{joined, kept-by}
 use Rattle.model.specs.declared.calls.Call.{Call}
 use Rattle.model.specs.declared.calls.Call.the-variants.{Tick}
 use Rattle.sheet.specs.Ats.{calls-of}
-use Rattle.sheet.specs.declared.sayings.At.{At}
+use Rattle.sheet.specs.declared.ats.At.{At}
 
 abbrev pub is-at : ℕ → At → Bool
 is-at clock a = eqb (a .clock) clock

@@ -12,7 +12,7 @@ use Rattle.model.specs.declared.calls.Answer.{Answer}
 use Rattle.model.specs.declared.calls.Call.{Call}
 use Rattle.model.specs.declared.duties.Duty.{Duty}
 use Rattle.sheet.specs.Sheets.{Set, sheet-of}
-use Rattle.sheet.specs.declared.faults.Fault.{Fault}
+use Rattle.forms.specs.declared.faults.Fault.{Fault}
 use Rattle.transcript.specs.Lines.{fault-line}
 use Rattle.transcript.specs.Renderings.{rendered}
 use Rattle.transcript.specs.Schedules.{script-of}

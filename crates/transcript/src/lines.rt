@@ -7,8 +7,8 @@ ghost use Rattle.transcript.specs.Lines.{call-word, duty-line, event-line, fau
 use model::Answer;
 use model::Call;
 use model::Who;
-use sheet::Fault;
-use sheet::Layer;
+use forms::Fault;
+use forms::Layer;
 use std::fmt;
 
 // The response time of a row.

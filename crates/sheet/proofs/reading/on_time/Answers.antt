@@ -5,7 +5,7 @@ use lib.ListN.{getD}
 use Rattle.std.proofs.shelf.Lists.{at-drop-all, at-drop-more}
 use Rattle.std.proofs.shelf.Tests.{cond-false, cond-true, le-ltb, lt-ltb}
 use Rattle.sheet.specs.Sheets.{late}
-use Rattle.sheet.specs.declared.sayings.At.{At}
+use Rattle.sheet.specs.declared.ats.At.{At}
 use Rattle.sheet.proofs.reading.on_time.Needs as need
 
 no-at : At

@@ -1,4 +1,4 @@
-use Rattle.sheet.proofs.Cuts.{take-part}
+use Rattle.forms.proofs.Cuts.{take-part}
 use Rattle.sheet.proofs.replaying.at_part.Needs as need
 
 pub returns : need.returns

@@ -1,9 +1,9 @@
 use mathlib.Core.List.{_++_}
 use mathlib.Core.Path.{sym, _∙_}
 use Rattle.std.proofs.shelf.Results.{err-from-errBy}
-use Rattle.sheet.specs.Lines.{line-of}
+use Rattle.forms.specs.Lines.{line-of}
 use Rattle.sheet.specs.Orders.{sheet-faults, so-far, table-faults, with-said}
-use Rattle.sheet.specs.Sayings.{forms-faults, letters-faults, says}
+use Rattle.forms.specs.Sayings.{forms-faults, letters-faults, says}
 use Rattle.sheet.proofs.Judgements.{judged-before}
 use Rattle.sheet.proofs.Lined.{by-table, room-in-place}
 use Rattle.sheet.proofs.drafts.Draft.enter.Needs as need

@@ -1,8 +1,8 @@
 use mathlib.Core.List.{_++_}
 use Rattle.std.proofs.shelf.Results.{err-from-errBy}
-use Rattle.sheet.specs.Lines.{line-of}
+use Rattle.forms.specs.Lines.{line-of}
 use Rattle.sheet.specs.Orders.{sheet-faults, so-far}
-use Rattle.sheet.specs.Sayings.{forms-faults, letters-faults, says}
+use Rattle.forms.specs.Sayings.{forms-faults, letters-faults, says}
 use Rattle.sheet.proofs.Judgements.{judged-before}
 use Rattle.sheet.proofs.Lined.{in-its-place, no-room, out-of-order}
 use Rattle.sheet.proofs.drafts.Draft.ordered.Needs as need
