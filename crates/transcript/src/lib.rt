@@ -2,6 +2,7 @@
 mod arranging;
 mod events;
 mod lines;
+mod running;
 mod scheduling;
 mod timings;
 mod totals;

@@ -11,8 +11,11 @@ ghost use Rattle.list.specs.Order.{sorted};
 ghost use Rattle.sheet.specs.Ats.{calls-of as calls-at};
 ghost use Rattle.transcript.specs.Schedules.{script-of};
 ghost use Rattle.transcript.specs.Timings.{due, earlier, later, lines-of};
+use crate::arranging::ByClock;
+use crate::arranging::arrange;
 use crate::timings::Timed;
 use dispatcher::Entry;
+use list::OrderedList;
 use model::Answer;
 use model::Call;
 use sheet::At;
@@ -76,4 +79,19 @@ pub(crate) fn schedule(
         script.push(pending(Call::Tick))?;
     }
     Ok(script)
+}
+
+// The script of at-lines that stand in the order of their lines. They are put in the order of their clocks first.
+pub(crate) fn script(
+    heap: Global,
+    text: &[u8],
+    ats: &[At],
+    ticks: u32,
+) -> Result<Vec<Entry>, AllocError>
+    ensures { λ r. ⌜ made r (λ script. calls-of (vec-items script) ≡ script-of (now (text .entry)) (now (ats .entry)) ticks) ⌝ }
+{
+    let mut slots = vec![in heap; Timed::free(); ats.len()]?;
+    let mut list = OrderedList::new(slots.as_mut_slice());
+    arrange(&mut list, ats);
+    schedule(heap, text, list.entries(), ticks)
 }
