@@ -1,3 +1,4 @@
+pub mod Balanced
 pub mod Clocks
 pub mod Growing
 pub mod Inserting

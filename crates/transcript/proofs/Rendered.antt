@@ -1,5 +1,5 @@
 -- A text that grows line by line.
-use Prim.Native.Nat.{ℕ, _+_, _<_, _≤_}
+use Prim.Native.Nat.{ℕ, _+_, _-_, _<_, _≤_}
 use mathlib.Core.Path.{_≡_, refl, sym, ap, _∙_}
 use mathlib.Core.List.{List, [], _∷_, _++_}
 use native.Mathlib.Numerals.{add-one}
@@ -13,13 +13,14 @@ use Rattle.dispatcher.specs.Scripts.{trace-of}
 use Rattle.dispatcher.specs.declared.entries.Entry.{Entry}
 use Rattle.model.specs.Runs.{Trace, anyone, of-tick, total}
 use Rattle.model.specs.Table.{response}
+use Rattle.model.specs.Totals.{total-accepted, total-served, total-withdrawn}
 use Rattle.model.specs.declared.calls.Answer.{Answer}
 use Rattle.model.specs.declared.calls.Answer.the-variants.{Accepted, Withdrawn, Slack, Ticked, Refused}
 use Rattle.model.specs.declared.calls.Call.{Call}
 use Rattle.model.specs.declared.calls.Call.the-variants.{Release}
 use Rattle.model.specs.declared.duties.Duty.{Duty}
-use Rattle.transcript.specs.Lines.{duty-line, event-line}
-use Rattle.transcript.specs.Renderings.{duty-lines, event-lines}
+use Rattle.transcript.specs.Lines.{duty-line, event-line, totals-line}
+use Rattle.transcript.specs.Renderings.{duty-lines, event-lines, left-over, run-lines}
 
 -- One row more.
 pub duty-more : (table : List Duty) (row w : ℕ) (start before after : List ℕ)
@@ -68,3 +69,19 @@ module _ (script : List Entry) (i : ℕ) where
 
   pub total-all : (f : Call → Answer → ℕ) → length script ≤ i → total f (trace-of (drop i script)) ≡ 0
   total-all f long = at-drop-all (λ (es : List Entry). total f (trace-of es)) script i long
+
+-- The totals behind what happened.
+pub totals-behind : (trace : Trace) (accepted served withdrawn waiting : ℕ) (start middle end : List ℕ)
+    → accepted ≡ total-accepted trace
+    → served ≡ total-served trace
+    → withdrawn ≡ total-withdrawn trace
+    → waiting ≡ accepted - served - withdrawn
+    → middle ≡ start ++ event-lines 0 trace
+    → end ≡ middle ++ totals-line accepted served withdrawn waiting
+    → end ≡ start ++ run-lines trace (left-over trace)
+totals-behind trace accepted served withdrawn waiting start middle end is-accepted is-served is-withdrawn is-waiting events totals =
+    let line : totals-line accepted served withdrawn waiting ≡ totals-line (total-accepted trace) (total-served trace) (total-withdrawn trace) (left-over trace) = cc in
+    totals
+    ∙ ap (λ (bs : List ℕ). bs ++ totals-line accepted served withdrawn waiting) events
+    ∙ append-assoc start (event-lines 0 trace) (totals-line accepted served withdrawn waiting)
+    ∙ ap (λ (bs : List ℕ). start ++ (event-lines 0 trace ++ bs)) line

@@ -1,5 +1,5 @@
 -- A run as text: the response time of each row, then what happened, then the totals.
-use Prim.Native.Nat.{ℕ, zero, suc, _+_}
+use Prim.Native.Nat.{ℕ, zero, suc, _+_, _-_}
 use mathlib.Core.Bool.{cond}
 use mathlib.Core.List.{List, [], _∷_, _++_}
 use lib.ListN.{length}
@@ -22,12 +22,19 @@ abbrev pub event-lines : ℕ → Trace → List ℕ
 event-lines clock [] = []
 event-lines clock (x ∷ xs) = event-line clock (x .0) (x .1) ++ event-lines (clock + of-tick anyone (x .1)) xs
 
+-- What happened in a run, and its totals, of which the last is what waits.
+abbrev pub run-lines : Trace → ℕ → List ℕ
+run-lines trace waiting =
+    event-lines 0 trace ++ totals-line (total-accepted trace) (total-served trace) (total-withdrawn trace) waiting
+
 -- The whole text of a run over a table. What waits is counted in the queue at the end.
 abbrev pub rendered : List Duty → Trace → State → List ℕ
 rendered table trace end =
-    duty-lines table (length table)
-    ++ (event-lines 0 trace
-    ++ totals-line (total-accepted trace) (total-served trace) (total-withdrawn trace) (total-units (end .queue .waiting)))
+    duty-lines table (length table) ++ run-lines trace (total-units (end .queue .waiting))
+
+-- What was accepted, and neither served nor withdrawn.
+abbrev pub left-over : Trace → ℕ
+left-over trace = total-accepted trace - total-served trace - total-withdrawn trace
 
 -- What one entry of a script adds to each total.
 abbrev pub accepted-by : Entry → ℕ

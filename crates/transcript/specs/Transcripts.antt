@@ -2,6 +2,7 @@
 use Prim.Native.Nat.{ℕ}
 use mathlib.Core.Path.{_≡_}
 use mathlib.Core.List.{List, [], map}
+use Rattle.std.specs.declared.option.Option.the-variants.{None}
 use Rattle.std.specs.declared.result.Result.{Result}
 use Rattle.std.specs.declared.result.Result.the-variants.{Ok, Err}
 use Rattle.model.specs.Machine.{State}
@@ -22,10 +23,11 @@ abbrev pub called : Trace → List Call
 called = map (λ (x : Call × Answer). x .0)
 
 -- A trace over a table is that of a run, with all that is promised of one, from the fresh state over a queue in which
--- nothing waits and that has 64 places.
+-- nothing waits, that names nobody and that has 64 places.
 pub record Ran (table : List Duty) (trace : Trace) (end : State) : Type 0 where
   pub start : Meaning
   pub empty : start .waiting ≡ []
+  pub names-none : start .named ≡ None
   pub roomy : start .places ≡ 64
   pub promise : Promise table start trace end
 

@@ -4,5 +4,9 @@ mod events;
 mod lines;
 mod running;
 mod scheduling;
+mod stops;
 mod timings;
 mod totals;
+mod transcripts;
+
+pub use transcripts::transcript;

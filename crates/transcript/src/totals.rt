@@ -1,5 +1,6 @@
 // What a run took in and gave out over all its errands.
 ghost use mathlib.Core.Path.{_≡_};
+ghost use Prim.Native.Nat.{_+_, _-_, _≤_};
 ghost use Rattle.dispatcher.specs.Scripts.{trace-of};
 ghost use Rattle.model.specs.Totals.{total-accepted, total-served, total-withdrawn};
 ghost use Rattle.transcript.specs.Renderings.{accepted-by, served-by, withdrawn-by};
@@ -64,5 +65,13 @@ impl Totals {
             served,
             withdrawn,
         }
+    }
+
+    // What waits in the end: what was accepted, and neither served nor withdrawn.
+    pub(crate) fn waiting(&self) -> u128
+        requires { ⌜ now self .served + now self .withdrawn ≤ now self .accepted ⌝ }
+        ensures { λ r. ⌜ r ≡ now (self .entry) .accepted - now (self .entry) .served - now (self .entry) .withdrawn ⌝ }
+    {
+        self.accepted - self.served - self.withdrawn
     }
 }
