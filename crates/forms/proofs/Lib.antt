@@ -1,0 +1,5 @@
+pub mod Cuts
+pub mod Ends
+pub mod Itemized
+pub mod Numbered
+pub mod Scans

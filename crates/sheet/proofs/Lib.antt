@@ -1,0 +1,3 @@
+pub mod Finishes
+pub mod Judgements
+pub mod Lined

@@ -1,0 +1,4 @@
+pub mod Ats
+pub mod Orders
+pub mod Sheets
+pub mod Told
