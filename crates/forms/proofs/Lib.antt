@@ -1,5 +1,6 @@
 pub mod Cuts
 pub mod Ends
+pub mod Grammatical
 pub mod Itemized
 pub mod Numbered
 pub mod Scans

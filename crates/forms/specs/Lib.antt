@@ -1,5 +1,6 @@
 pub mod Faults
 pub mod Forms
+pub mod Grammar
 pub mod Items
 pub mod Lines
 pub mod Sayings

@@ -35,3 +35,4 @@ pub use sayings::QueueName;
 pub use sayings::QueueNameDebug;
 pub use sayings::QueueNamePartialEq;
 pub use sayings::Said;
+pub use shapes::forms_by_grammar;

@@ -1,6 +1,7 @@
 // Which lines are forms: brackets that pair up, and bytes that may stand one after the other.
 ghost use mathlib.Core.Path.{_≡_};
 ghost use Rattle.std.specs.shelf.Text.{sameBytes};
+ghost use Rattle.forms.specs.Grammar.{Forms-by-grammar};
 ghost use Rattle.forms.specs.Forms.{bracketed, digit, is-form, is-remark, letter, may-follow, spelled-out};
 
 // The deepest that brackets may nest.
@@ -86,6 +87,14 @@ pub fn is_remark(part: &[u8]) -> bool
 {
     let front = &part[0..part.len().min(8)];
     same(front, b"(remark ") || same(front, b"(remark)")
+}
+
+// A line whose brackets pair up and whose bytes may stand one after the other is a form, and no other line is: the law
+// that the definition of a form rests on.
+pub fn forms_by_grammar() -> u8
+    ensures { λ _. ⌜ Forms-by-grammar ⌝ }
+{
+    0
 }
 
 // The line is a form or a remark.

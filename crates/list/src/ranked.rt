@@ -1,16 +1,16 @@
 ghost use mathlib.Core.Path.{_≡_};
-ghost use mathlib.Core.Bool.{Bool, true, false};
-ghost use Rattle.list.specs.Order.{same-rank};
+ghost use mathlib.Core.Bool.{Bool};
+ghost use Rattle.list.specs.Order.{same-rank, Strict, Chain};
 
 // Entries with a total order of their ranks. Two entries of which neither is before the other have the same rank.
 pub trait Ranked {
     ghost before: { Self → Self → Bool };
 
     // Of two entries at most one is before the other.
-    law strict: { (x y : Self) → before x y ≡ true → before y x ≡ false };
+    ghost strict: { Strict before };
 
     // An entry that is not before a second, which is not before a third, is not before the third.
-    law chain: { (x y z : Self) → before x y ≡ false → before y z ≡ false → before x z ≡ false };
+    ghost chain: { Chain before };
 
     fn is_before(&self, other: &Self) -> bool
         ensures { λ r. ⌜ r ≡ before (now (self .entry)) (now (other .entry)) ⌝ };

@@ -16,6 +16,7 @@ pub mod Promise
 pub mod Responses
 pub mod Searches
 pub mod Slack
+pub mod Slots
 pub mod Sparing
 pub mod Stepping
 pub mod Sums

@@ -15,7 +15,8 @@ use Rattle.list.specs.Held.{held}
 use Rattle.list.specs.Order.{placed}
 use Rattle.list.specs.declared.ordered.OrderedList.{OrderedList}
 use Rattle.queue.specs.Arrivals.{Arrives, leaving}
-use Rattle.queue.specs.Lines.{errands, ranks, without, LinesUp}
+use Rattle.queue.specs.Lines.{errands, without, LinesUp}
+use Rattle.queue.specs.Ranks.{ranks}
 use Rattle.queue.specs.declared.slots.Slot.{Slot}
 
 -- A slot of no worth outrates none, so it goes behind all others.

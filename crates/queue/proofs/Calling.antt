@@ -23,7 +23,8 @@ use Rattle.model.specs.declared.refusals.Refusal.{Refusal}
 use Rattle.list.specs.Held.{held, Becomes, Inserts}
 use Rattle.list.specs.Order.{same-rank}
 use Rattle.list.specs.declared.ordered.OrderedList.{OrderedList}
-use Rattle.queue.specs.Lines.{errands, line-meaning, ranks, place-of, first-number, spent, without, LinesUp}
+use Rattle.queue.specs.Lines.{errands, line-meaning, place-of, first-number, spent, without, LinesUp}
+use Rattle.queue.specs.Ranks.{ranks}
 use Rattle.queue.specs.Slots.{with-units}
 use Rattle.queue.specs.declared.slots.Slot.{Slot}
 use Rattle.queue.proofs.Lookups.{look-at-place, look-number, some-within, first-once}

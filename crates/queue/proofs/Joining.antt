@@ -18,14 +18,14 @@ use Rattle.list.specs.Held.{held}
 use Rattle.list.specs.declared.ordered.OrderedList.{OrderedList}
 use Rattle.list.specs.Order.{none-before, sorted, placed}
 use Rattle.list.proofs.Sorting.{placed-keeps-sorted}
-use Rattle.queue.specs.Lines.{errands, line-meaning, ranks, first-number, spent, without, LinesUp}
+use Rattle.queue.specs.Lines.{errands, line-meaning, first-number, spent, without, LinesUp}
+use Rattle.queue.specs.Ranks.{ranks, ranks-strict, ranks-chain}
 use Rattle.queue.specs.Ratings.{outrates}
 use Rattle.queue.specs.Slots.{Holds, with-units}
 use Rattle.queue.specs.Worths.{best-from, best, joining, before-all, each-to, gone, worked, after-spend, Stands, Joins}
 use Rattle.queue.specs.declared.slots.Slot.{Slot}
 use Rattle.queue.proofs.Changing.{none-apart, none-behind}
 use Rattle.queue.proofs.Lookups.{first-once}
-use Rattle.queue.proofs.Rates.{ranks-strict, ranks-chain}
 
 -- The first of a line that b leads is the best of b and of those that join.
 first-joining : (b : Slot) (line came : List Slot) →

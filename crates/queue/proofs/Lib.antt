@@ -4,4 +4,3 @@ mod Changing
 mod Joining
 mod Lookups
 mod Meanings
-mod Rates

@@ -14,7 +14,8 @@ use Rattle.model.specs.declared.errands.Errand.{Errand}
 use Rattle.list.specs.Held.{held, places, Becomes}
 use Rattle.list.specs.Order.{placed}
 use Rattle.list.specs.declared.ordered.OrderedList.{OrderedList}
-use Rattle.queue.specs.Lines.{errands, line-meaning, line-sound, ranks}
+use Rattle.queue.specs.Lines.{errands, line-meaning, line-sound}
+use Rattle.queue.specs.Ranks.{ranks}
 use Rattle.queue.specs.Slots.{with-units}
 use Rattle.queue.specs.declared.slots.Slot.{Slot}
 use Rattle.queue.proofs.Lookups.{first-once, once-more}

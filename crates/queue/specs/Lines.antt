@@ -3,7 +3,7 @@ use Prim.Native.Nat.{ℕ, suc, _-_}
 use native.Mathlib.Omega.{arith}
 use denote.Ref.{now}
 use mathlib.Core.Path.{_≡_, refl, ap}
-use mathlib.Core.Bool.{Bool, true, cond}
+use mathlib.Core.Bool.{true, cond}
 use mathlib.Core.List.{List, [], _∷_, map}
 use lib.Dec.{leb, eqb}
 use lib.ListN.{length-take, length-map}
@@ -19,7 +19,7 @@ use Rattle.model.specs.declared.refusals.Refusal.{Refusal}
 use Rattle.list.specs.Held.{held, places}
 use Rattle.list.specs.Order.{placed}
 use Rattle.list.specs.declared.ordered.OrderedList.{OrderedList}
-use Rattle.queue.specs.Ratings.{outrates}
+use Rattle.queue.specs.Ranks.{ranks}
 use Rattle.queue.specs.Slots.{with-units}
 use Rattle.queue.specs.declared.slots.Slot.{Slot}
 
@@ -37,10 +37,6 @@ first-number (e ∷ es) = Some (e .number)
 abbrev pub line-meaning : OrderedList Slot → Meaning
 line-meaning l =
     record { waiting = errands (held l); named = first-number (errands (held l)); places = places l }
-
--- A slot goes before another that it outrates.
-abbrev pub ranks : Slot → Slot → Bool
-ranks x y = outrates (x .rating) (y .rating)
 
 -- A slot lined up: at its place, or refused with nothing changed.
 abbrev pub LinesUp : {X : Type 0} → OrderedList Slot → Slot → Result X Refusal → OrderedList Slot → Type 0

@@ -11,7 +11,7 @@ use Rattle.std.specs.declared.result.Result.the-variants.{Ok, Err}
 use Rattle.model.specs.declared.errands.Errand.{Errand}
 use Rattle.model.specs.declared.refusals.Refusal.{Refusal}
 use Rattle.list.specs.Order.{placed}
-use Rattle.queue.specs.Lines.{ranks}
+use Rattle.queue.specs.Ranks.{ranks}
 use Rattle.queue.specs.Slots.{Holds, with-units}
 use Rattle.queue.specs.declared.slots.Slot.{Slot}
 

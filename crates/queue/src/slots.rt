@@ -1,6 +1,6 @@
 ghost use mathlib.Core.Path.{_≡_};
 ghost use Rattle.model.specs.Queues.{errand-within};
-ghost use Rattle.queue.specs.Lines.{ranks};
+ghost use Rattle.queue.specs.Ranks.{ranks, ranks-strict, ranks-chain};
 ghost use Rattle.queue.specs.Slots.{Holds, Made, with-units};
 use super::ratings::Rating;
 use list::Ranked;
@@ -16,6 +16,10 @@ pub struct Slot {
 
 pub impl Ranked for Slot as SlotRanked {
     ghost before = { ranks };
+
+    ghost strict = { ranks-strict };
+
+    ghost chain = { ranks-chain };
 
     fn is_before(&self, other: &Slot) -> bool {
         self.rating.outrates(&other.rating)

@@ -3,7 +3,8 @@ ghost use mathlib.Core.Bool.{true};
 ghost use Rattle.model.specs.Queues.{distinct};
 ghost use Rattle.list.specs.Held.{held};
 ghost use Rattle.list.specs.Order.{sorted};
-ghost use Rattle.queue.specs.Lines.{errands, ranks};
+ghost use Rattle.queue.specs.Lines.{errands};
+ghost use Rattle.queue.specs.Ranks.{ranks};
 
 mod calls;
 

@@ -35,7 +35,7 @@ fn suffices(table: &[Duty], row: usize, ticks: u32) -> bool
 }
 
 // The response time of a row, sought by trying each number of ticks from 1 on.
-pub fn response_time(table: &[Duty], row: usize) -> Option<u32>
+pub(crate) fn response_time(table: &[Duty], row: usize) -> Option<u32>
     requires { ⌜ all-within (now table) ≡ true ⌝ ∗ ⌜ length (now table) ≤ 16 ⌝ ∗ ⌜ row < length (now table) ⌝ }
     ensures { λ r. ⌜ r ≡ response (now (table .entry)) row ⌝ }
 {
@@ -49,7 +49,7 @@ pub fn response_time(table: &[Duty], row: usize) -> Option<u32>
 }
 
 // The smallest row that has no response time.
-pub fn first_late(table: &[Duty]) -> Option<u32>
+pub(crate) fn first_late(table: &[Duty]) -> Option<u32>
     requires { ⌜ all-within (now table) ≡ true ⌝ ∗ ⌜ length (now table) ≤ 16 ⌝ }
     ensures { λ r. ⌜ r ≡ first-late (now (table .entry)) ⌝ }
 {

@@ -1,5 +1,5 @@
 -- A call to one row of the slots: what it leaves in the rows, and that they are still kept.
-use Prim.Native.Nat.{ℕ, zero, suc, _≤_, _<_}
+use Prim.Native.Nat.{ℕ, _≤_, _<_}
 use mathlib.Core.Path.{_≡_, refl, sym, ap, _∙_}
 use mathlib.Core.Bool.{true}
 use mathlib.Core.List.{List, [], _∷_}
@@ -11,6 +11,7 @@ use Rattle.std.proofs.shelf.Lists.{getD-take, set-getD}
 use Rattle.std.proofs.shelf.Tests.{cond-false, cond-true, le-ltb, lt-ltb}
 use Rattle.model.proofs.Accepting.{call-keeps}
 use Rattle.model.proofs.Keeping.{kept-gives}
+use Rattle.model.proofs.Slots.{take-set}
 use Rattle.model.proofs.Told.{told-some}
 use Rattle.model.specs.Kept.{kept}
 use Rattle.model.specs.Machine.{call-refusal, row-refusal, rows-after}
@@ -24,12 +25,6 @@ use Rattle.model.specs.declared.rows.RowCall.{RowCall}
 use Rattle.workload.specs.Acts.{Row-asked, acted}
 use Rattle.workload.specs.Workloads.{rows-in, table-in}
 use Rattle.workload.specs.declared.workloads.Workload.{Workload}
-
-pub take-set : {X : Type 0} (n i : ℕ) (xs : List X) (x : X) → take n (set xs i x) ≡ set (take n xs) i x
-take-set zero i xs x = refl
-take-set (suc n) i [] x = refl
-take-set (suc n) zero (y ∷ xs) x = refl
-take-set (suc n) (suc i) (y ∷ xs) x = ap (λ zs. y ∷ zs) (take-set n i xs x)
 
 pub no-such-row : (clock : ℕ) (rows : List Row) (i : ℕ) (call : RowCall) → length rows ≤ i → call-refusal clock rows i call ≡ 1 ∷ []
 no-such-row clock rows i call le = cond-false _ _ _ (le-ltb _ _ le)
@@ -48,7 +43,7 @@ module _ (clock : ℕ) (table : List Duty) (slots : List Row) (i : ℕ) (call : 
 
   written : after ≡ set rows i (acted (duty-at table i) clock (row-at rows i) call)
   written =
-      take-set (length table) i slots _ ∙ ap (λ (row : Row). set rows i (acted (duty-at table i) clock row call)) read
+      take-set slots (length table) i _ ∙ ap (λ (row : Row). set rows i (acted (duty-at table i) clock row call)) read
 
   pub row-answers : call-refusal clock rows i call ≡ row-refusal clock (getD slots i no-row) call
   row-answers =

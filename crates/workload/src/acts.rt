@@ -21,7 +21,7 @@ fn released(duty: Duty, clock: u32) -> Row
 }
 
 // What a call does to a row goes by the row's state and the call together.
-pub fn act(row: &mut Row, call: RowCall, duty: Duty, clock: u32) -> Result<(), Refusal>
+pub(crate) fn act(row: &mut Row, call: RowCall, duty: Duty, clock: u32) -> Result<(), Refusal>
     ensures answers { λ r. ⌜ refusal r ≡ row-refusal clock (now (row .entry)) call ⌝ }
     ensures leaves { λ _. ⌜ now (row .exit) ≡ acted duty clock (now (row .entry)) call ⌝ }
 {
@@ -62,7 +62,7 @@ pub fn act(row: &mut Row, call: RowCall, duty: Duty, clock: u32) -> Result<(), R
 }
 
 // The ready row with the smallest number.
-pub fn first_ready(rows: &[Row]) -> Option<usize>
+pub(crate) fn first_ready(rows: &[Row]) -> Option<usize>
     ensures { λ r. ⌜ r ≡ first-ready (now (rows .entry)) ⌝ }
 {
     for (i, row) in rows.iter().enumerate() {

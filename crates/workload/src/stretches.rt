@@ -59,7 +59,7 @@ fn next_job(stream: Stream, ticks: u32) -> u32
 // The idle ticks among the first `end` of a window. A busy stretch goes on for as long as what is asked for up
 // to its end, and the idle ticks before it, fill it; an idle stretch goes on until the next job. Both are left the
 // moment the window's end is reached.
-pub fn idle_ticks(streams: &[Stream], end: u32) -> u32
+pub(crate) fn idle_ticks(streams: &[Stream], end: u32) -> u32
     requires { ⌜ all-tame (now streams) ≡ true ⌝ ∗ ⌜ length (now streams) ≤ 16 ⌝ ∗ ⌜ end ≤ 8192 ⌝ }
     ensures { λ r. ⌜ r ≡ idle-ticks (all-ask (now (streams .entry))) end ⌝ }
 {

@@ -5,7 +5,7 @@ use super::Rating;
 
 impl Rating {
     // A worth for so many units.
-    pub fn of(worth: u32, units: u32) -> Rating
+    pub(crate) fn of(worth: u32, units: u32) -> Rating
         requires { ⌜ 1 ≤ units ⌝ }
         ensures worth { λ r. ⌜ r .worth ≡ worth ⌝ }
         ensures units { λ r. ⌜ r .units ≡ units ⌝ }

@@ -4,7 +4,8 @@ use mathlib.Core.Path.{_≡_, sym, ap, subst, _∙_}
 use mathlib.Core.Bool.{true, cond}
 use lib.ListN.{set}
 use Rattle.list.specs.Held.{held, Becomes, fits}
-use Rattle.queue.specs.Lines.{line-meaning, ranks}
+use Rattle.queue.specs.Lines.{line-meaning}
+use Rattle.queue.specs.Ranks.{ranks}
 use Rattle.queue.specs.Slots.{with-units}
 use Rattle.model.specs.Queues.{Spend}
 use Rattle.std.specs.declared.option.Option.the-variants.{Some}

@@ -1,15 +1,19 @@
--- Worth for a unit, compared by products.
+-- The order of slots by their ratings, and that it is a total order of ranks.
 use Prim.Native.Nat.{ℕ, _*_, _<_, _≤_}
 use native.Mathlib.Nat.{le-of-lt, mul-le-mul-right, mul-right-comm, le-of-mul-le-mul-right}
 use native.Mathlib.Omega.{arith}
-use mathlib.Core.Path.{_≡_}
-use mathlib.Core.Bool.{true, false}
-use Rattle.std.proofs.shelf.Tests.{ltb-true, ltb-false, le-ltb}
-use Rattle.queue.specs.Lines.{ranks}
+use mathlib.Core.Bool.{Bool}
+use borrow.Author.Tests.{ltb-true, ltb-false, le-ltb}
+use Rattle.list.specs.Order.{Strict, Chain}
+use Rattle.queue.specs.Ratings.{outrates}
 use Rattle.queue.specs.declared.slots.Slot.{Slot}
 
+-- A slot goes before another that it outrates.
+abbrev pub ranks : Slot → Slot → Bool
+ranks x y = outrates (x .rating) (y .rating)
+
 -- x has no more worth for a unit than y, and y no more than z: then x has no more than z.
-pub rates-chain : (xw xu yw yu zw zu : ℕ) → 0 < yu → xw * yu ≤ yw * xu → yw * zu ≤ zw * yu → xw * zu ≤ zw * xu
+rates-chain : (xw xu yw yu zw zu : ℕ) → 0 < yu → xw * yu ≤ yw * xu → yw * zu ≤ zw * yu → xw * zu ≤ zw * xu
 rates-chain xw xu yw yu zw zu some h k =
     let scaled : xw * zu * yu ≤ zw * xu * yu =
     omega (
@@ -22,10 +26,10 @@ rates-chain xw xu yw yu zw zu some h k =
     ) in
     le-of-mul-le-mul-right scaled some
 
-pub ranks-strict : (x y : Slot) → ranks x y ≡ true → ranks y x ≡ false
-ranks-strict x y h = let less = ltb-true _ _ h in le-ltb _ _ (le-of-lt less)
+pub ranks-strict : Strict ranks
+ranks-strict x y h = le-ltb _ _ (le-of-lt (ltb-true _ _ h))
 
-pub ranks-chain : (x y z : Slot) → ranks x y ≡ false → ranks y z ≡ false → ranks x z ≡ false
+pub ranks-chain : Chain ranks
 ranks-chain x y z h k =
     le-ltb _ _
     (rates-chain (x .rating .worth) (x .rating .units) (y .rating .worth) (y .rating .units) (z .rating .worth)
