@@ -24,6 +24,9 @@ use std::alloc::AllocError;
 use std::alloc::Global;
 use table::Setting;
 
+// The queue of a sheet has so many places.
+const PLACES: usize = 64;
+
 // Runs a script for its answers alone.
 fn answer<Q: Queue + Drop>(setting: Setting, queue: Q, script: &mut [Entry])
     ensures runs { λ _. ⌜ ((end : State) × Promise (table-of setting) (meaning queue) (trace-of (now (script .exit))) end) ⌝ }
@@ -37,7 +40,7 @@ fn answer_first(setting: Setting, script: &mut [Entry])
     ensures runs { λ _. ⌜ ((end : State) × Ran (table-of setting) (trace-of (now (script .exit))) end) ⌝ }
     ensures calls { λ _. ⌜ calls-of (now (script .exit)) ≡ calls-of (now (script .entry)) ⌝ }
 {
-    let mut slots = [Slot::free(); 64];
+    let mut slots = [Slot::free(); PLACES];
     answer(setting, FirstCome::new(&mut slots), script);
 }
 
@@ -46,7 +49,7 @@ fn answer_worth(setting: Setting, script: &mut [Entry])
     ensures runs { λ _. ⌜ ((end : State) × Ran (table-of setting) (trace-of (now (script .exit))) end) ⌝ }
     ensures calls { λ _. ⌜ calls-of (now (script .exit)) ≡ calls-of (now (script .entry)) ⌝ }
 {
-    let mut slots = [Slot::free(); 64];
+    let mut slots = [Slot::free(); PLACES];
     answer(setting, ByWorth::new(&mut slots), script);
 }
 

@@ -1,5 +1,6 @@
-use mathlib.Core.Path.{_≡_, subst}
 use Prim.Native.Nat.{ℕ}
+use mathlib.Core.Path.{subst}
+use Rattle.std.specs.Of.String.{string-bytes}
 use Rattle.std.specs.declared.result.Result.{Result}
 use Rattle.model.specs.declared.refusals.Refusal.{Refusal}
 use Rattle.table.specs.Settings.{Responds, table-of}
@@ -10,5 +11,10 @@ pub loop-row-again : need.loop-row-again
 loop-row-again c =
     let table = table-of (c .args .setting .now) in
     let row = c .loop-row .row in
-    let responds = subst (λ (r : Result ℕ Refusal). Responds table row r) (c .unwrap-response .ensures) (c .response .ensures) in
-    duty-more table row (c .unwrap-response .result) _ _ _ responds (c .loop-row .inv) (c .in-Continue-write-duty .ensures tt)
+    let start = string-bytes (c .args .out .now) in
+    let before = string-bytes (c .loop-row .out) in
+    let after = string-bytes (c .write-duty .last .out) in
+    let responds =
+    subst (λ (r : Result ℕ Refusal). Responds table row r) (c .unwrap-response .ensures) (c .response .ensures) in
+    duty-more table row (c .unwrap-response .result) start before after responds (c .loop-row .inv)
+    (c .in-Continue-write-duty .ensures tt)
