@@ -7,6 +7,8 @@ mod faults;
 mod passing;
 mod reading;
 mod replaying;
+#[cfg(test)]
+mod tests;
 
 pub use ats::At;
 pub use ats::Calls;
