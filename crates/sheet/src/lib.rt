@@ -19,3 +19,4 @@ pub use passing::FaultFromTable;
 pub use passing::SheetFromForms;
 pub use passing::TableFromSheet;
 pub use reading::read;
+pub use reading::sheets_hold;
