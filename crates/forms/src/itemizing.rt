@@ -5,6 +5,7 @@ ghost use mathlib.Core.List.{[]};
 ghost use Prim.Native.Nat.{suc, _+_, _<_, _≤_};
 ghost use lib.Dec.{ltb};
 ghost use lib.ListN.{length, drop};
+ghost use Rattle.forms.specs.Laws.{Taken-apart};
 ghost use Rattle.forms.specs.Items.{inside, item-length, items, items-left, items-of, Next-item, open-after};
 use crate::items::Items;
 
@@ -78,4 +79,11 @@ impl<'a> Items<'a> {
         self.rest = behind(bytes, end);
         Some(&bytes[0..end])
     }
+}
+
+// Nothing of a text is lost or made up when it is taken apart into lines, or a form into items.
+pub fn taken_apart() -> u8
+    ensures { λ _. ⌜ Taken-apart ⌝ }
+{
+    0
 }

@@ -26,6 +26,7 @@ pub use faults::LettersFault;
 pub use faults::Place;
 pub use faults::PlaceDebug;
 pub use faults::PlacePartialEq;
+pub use itemizing::taken_apart;
 pub use items::Items;
 pub use judging::form_said;
 pub use lines::Line;

@@ -7,6 +7,9 @@ use crate::shapes::digit;
 // The largest number that a sheet may hold.
 const LARGEST: u64 = 4294967295;
 
+// The most digits that it may be written with.
+const MOST_DIGITS: usize = 10;
+
 // In a form an item that begins with a digit is a number.
 pub fn is_number(item: &[u8]) -> bool
     ensures { λ r. ⌜ r ≡ is-number (now (item .entry)) ⌝ }
@@ -34,7 +37,7 @@ pub fn numbers_fit(form: &[u8]) -> bool
     for b in form {
         if digit(*b) {
             value = value * 10 + u64::from(b.saturating_sub(48));
-            if count >= 10 || value > LARGEST {
+            if count >= MOST_DIGITS || value > LARGEST {
                 return false;
             }
             count += 1;

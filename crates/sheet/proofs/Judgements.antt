@@ -35,3 +35,8 @@ module _ {X : Type 0} (x : X) where
   judged-rest [] gs z e = e
   judged-rest (None ∷ fs) gs z e = judged-rest fs gs z e
   judged-rest (Some f ∷ fs) gs z e = absurd (let z : _≡_ {A = ℕ} 0 1 = cc in omega arith)
+
+-- Where the value stands, no fault is there.
+pub none-first : {X : Type 0} (fs : List (Option Fault)) (o : Option Fault) (x z : X) → Ok z ≡ judged (o ∷ fs) x → o ≡ None
+none-first fs None x z e = refl
+none-first fs (Some f) x z e = absurd (let z : _≡_ {A = ℕ} 0 1 = cc in omega arith)

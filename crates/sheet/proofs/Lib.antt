@@ -1,3 +1,4 @@
+pub mod Called
 pub mod Finishes
 pub mod Judgements
 pub mod Lined

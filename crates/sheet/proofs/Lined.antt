@@ -20,17 +20,12 @@ use Rattle.forms.specs.declared.faults.Fault.{Fault}
 use Rattle.forms.specs.declared.faults.Layer.the-variants.{Sheet as Sheet-layer}
 use Rattle.forms.specs.declared.faults.Place.{Place}
 use Rattle.forms.specs.declared.sayings.Said.{Said}
-use Rattle.sheet.proofs.Judgements.{judged-after, judged-rest, judged-value}
+use Rattle.sheet.proofs.Judgements.{judged-after, judged-rest, judged-value, none-first}
 
 -- A test that gives no fault has passed.
 passed : (t : Bool) (f : Fault) → unless t f ≡ None → t ≡ true
 passed true f e = refl
 passed false f e = absurd (let z : _≡_ {A = ℕ} 0 1 = cc in omega arith)
-
--- Where the value stands, no fault is there.
-none-first : {X : Type 0} (fs : List (Option Fault)) (o : Option Fault) (x z : X) → Ok z ≡ judged (o ∷ fs) x → o ≡ None
-none-first fs None x z e = refl
-none-first fs (Some f) x z e = absurd (let z : _≡_ {A = ℕ} 0 1 = cc in omega arith)
 
 -- The faults of order, for what is said.
 abbrev order-faults : So-far → Line → Said → List (Option Fault)

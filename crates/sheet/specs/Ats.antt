@@ -25,9 +25,13 @@ abbrev pub behind-first : List (List ℕ) → List (List ℕ)
 behind-first [] = []
 behind-first (i ∷ is) = is
 
--- The calls of an at-line: its items behind the word and the clock.
+-- The items of an at-line behind its word and its clock.
+abbrev pub call-items : List ℕ → At → List (List ℕ)
+call-items text a = behind-first (behind-first (items 0 (inside (at-part text a))))
+
+-- The calls of an at-line.
 abbrev pub calls-of : List ℕ → At → List Call
-calls-of text a = calls-in (behind-first (behind-first (items 0 (inside (at-part text a)))))
+calls-of text a = calls-in (call-items text a)
 
 -- The calls that are still to be handed out.
 abbrev pub calls-left : Calls → List Call

@@ -1,4 +1,5 @@
 pub mod Ats
+pub mod Laws
 pub mod Orders
 pub mod Sheets
 pub mod Told

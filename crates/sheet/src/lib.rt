@@ -7,6 +7,8 @@ mod faults;
 mod passing;
 mod reading;
 mod replaying;
+#[cfg(test)]
+mod tests;
 
 pub use ats::At;
 pub use ats::Calls;
@@ -17,3 +19,4 @@ pub use passing::FaultFromTable;
 pub use passing::SheetFromForms;
 pub use passing::TableFromSheet;
 pub use reading::read;
+pub use reading::sheets_hold;

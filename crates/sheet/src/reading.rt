@@ -6,6 +6,7 @@ ghost use Rattle.forms.specs.Faults.{failing};
 ghost use Rattle.sheet.specs.Told.{sheet-told, table-told};
 ghost use Rattle.forms.specs.Lines.{lines-left};
 ghost use Rattle.sheet.specs.Orders.{lines-judged, nothing-read, so-far};
+ghost use Rattle.sheet.specs.Laws.{Sheets-hold};
 ghost use Rattle.sheet.specs.Sheets.{end-of, late, of-lines, outcome, sheet-of, too-long, whole};
 use crate::ats::At;
 use crate::drafts::Draft;
@@ -106,4 +107,11 @@ pub fn read(text: &[u8]) -> Result<Sheet, Fault>
 {
     let sheet = read_text(text)?;
     Ok(sheet)
+}
+
+// In every sheet that is read, each at-line has calls, all of which are handed out, and comes before the end.
+pub fn sheets_hold() -> u8
+    ensures { λ _. ⌜ Sheets-hold ⌝ }
+{
+    0
 }
