@@ -1,5 +1,7 @@
 // From the bytes of a text to its lines, and from a line to its form, its items and what it says; or the first fault of
 // the line's letters or of its form.
+#![tactic(auto)]
+
 mod calls;
 mod faults;
 mod itemizing;

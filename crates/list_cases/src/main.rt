@@ -1,4 +1,6 @@
 // The ordered list on calls that are due at a clock: those of one clock stay as they came.
+#![tactic(auto)]
+
 ghost use Rattle.list.specs.Order.{by_number, by_number_strict, by_number_chain};
 
 use list::{OrderedList, Ranked};

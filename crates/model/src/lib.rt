@@ -1,4 +1,6 @@
 // The vocabulary of the dispatcher: plain types, with the definitions in specs/ that contracts cite.
+#![tactic(auto)]
+
 mod calls;
 mod duties;
 mod errands;

@@ -1,4 +1,6 @@
 // Queues of errands: what every queue answers, and two queues over handed slots.
+#![tactic(auto)]
+
 mod arrivals;
 mod lines;
 mod queues;

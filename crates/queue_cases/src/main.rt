@@ -1,4 +1,6 @@
 // The queues on small cases: what they refuse, and in which order they serve.
+#![tactic(auto)]
+
 use model::{Errand, Refusal};
 use queue::{ByWorth, FirstCome, Queue, Slot};
 use std::io;

@@ -1,5 +1,7 @@
 // Reading sheets: the lines of a text, in their order, set a table, a queue, at-lines and a number of ticks; or the
 // text has one fault.
+#![tactic(auto)]
+
 mod ats;
 mod drafts;
 mod entering;

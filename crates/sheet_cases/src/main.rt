@@ -1,5 +1,7 @@
 // Stored sheets, each with the text that an independent reckoner gave for it: NAME.sheet and NAME.text for every name in the
 // file `names`.
+#![tactic(auto)]
+
 use std::{fs, io};
 use transcript::transcript;
 

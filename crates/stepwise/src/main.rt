@@ -1,5 +1,7 @@
 // The six calls, made one by one: how a program that is not a sheet drives the dispatcher. A setting moves into the
 // running dispatcher, so that nothing can be added after the start and nothing ticks before it.
+#![tactic(auto)]
+
 use dispatcher::Dispatcher;
 use model::{Duty, Errand, Refusal, Who};
 use queue::{FirstCome, Queue, Slot};

@@ -1,4 +1,6 @@
 // Reads a sheet from standard input and prints its transcript, or the one fault that it has.
+#![tactic(auto)]
+
 use std::io;
 use std::io::Read;
 use transcript::transcript;
