@@ -14,8 +14,8 @@ pub loop-end-preserved : goal.loop-end-preserved
 loop-end-preserved c =
     let step = item_length_step c.args.bytes.now c.loop-end.depth c.loop-end.end (omega arith) in
     let ways = c.else-bytes-end-eq32.either in
-    let deep = ap (λ d. item_length d (drop (c.loop-end.end + 1) c.args.bytes.now)) c.open-after-depth.ensures.value in
-    (omega (arith, c.open-after-depth.ensures.bound), grind (arith, nat_tests))
+    let deep = ap (λ d. item_length d (drop (c.loop-end.end + 1) c.args.bytes.now)) c.open_after-depth.ensures.value in
+    (omega (arith, c.open_after-depth.ensures.bound), grind (arith, nat_tests))
 
 pub returns : goal.returns
 returns c =

@@ -4,9 +4,9 @@ use Rattle.forms.proofs.Scans.{spelled_goes_on, spelled_stops}
 use Rattle.forms.specs.Forms.{spelled}
 use Rattle.forms.proofs.shapes.spelled_out.Goals as goal
 
-pub returns-then-not-may-follow : goal.returns-then-not-may-follow
-returns-then-not-may-follow c =
-    sym (spelled_stops c.args.part.now _ c.loop-i.i (omega arith) (sym c.if-not-may-follow.ensures)) ∙ c.loop-i.invariant
+pub returns-then-not-may_follow : goal.returns-then-not-may_follow
+returns-then-not-may_follow c =
+    sym (spelled_stops c.args.part.now _ c.loop-i.i (omega arith) (sym c.if-not-may_follow.ensures)) ∙ c.loop-i.invariant
 
 pub loop-i-preserved : goal.loop-i-preserved
 loop-i-preserved c =
@@ -14,7 +14,7 @@ loop-i-preserved c =
     let i = c.loop-i.i in
     let here : i + 1 - 1 ≡ i = omega arith in
     ap (λ k. spelled (get_or part k 0) (drop (i + 1) part)) here
-    ∙ sym (spelled_goes_on part _ i (omega arith) (sym c.if-not-may-follow.ensures))
+    ∙ sym (spelled_goes_on part _ i (omega arith) (sym c.if-not-may_follow.ensures))
     ∙ c.loop-i.invariant
 
 pub returns : goal.returns

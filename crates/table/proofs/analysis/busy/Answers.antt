@@ -22,11 +22,11 @@ ceil-requires c =
     let l = limits_at c.args.rows.now c.requires.0 c.loop-duty.duty-index (omega arith) in
     (omega arith, (omega arith, omega arith))
 
-pub overflow-mul-sum : goal.overflow-mul-sum
-overflow-mul-sum c = omega (arith, turn c, busy_at_most c.args.rows.now c.args.ticks c.requires.0 c.requires.1.1)
+pub overflow_mul-sum : goal.overflow_mul-sum
+overflow_mul-sum c = omega (arith, turn c, busy_at_most c.args.rows.now c.args.ticks c.requires.0 c.requires.1.1)
 
-pub overflow-add-sum : goal.overflow-add-sum
-overflow-add-sum c = omega (arith, turn c, busy_at_most c.args.rows.now c.args.ticks c.requires.0 c.requires.1.1)
+pub overflow_add-sum : goal.overflow_add-sum
+overflow_add-sum c = omega (arith, turn c, busy_at_most c.args.rows.now c.args.ticks c.requires.0 c.requires.1.1)
 
 pub loop-duty-preserved : goal.loop-duty-preserved
 loop-duty-preserved c = turn c

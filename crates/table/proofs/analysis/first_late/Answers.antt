@@ -3,8 +3,8 @@ use Rattle.model.proofs.Searches.{least_is, least_none}
 use Rattle.model.specs.Table.{late}
 use Rattle.table.proofs.analysis.first_late.Goals as goal
 
-pub returns-then-is-none : goal.returns-then-is-none
-returns-then-is-none c =
+pub returns-then-is_none : goal.returns-then-is_none
+returns-then-is_none c =
     sym (least_is (late c.args.table.now) 0 _ c.loop-row.row
     (record { passed = search rules; above = omega arith; below = omega arith; first = λ k some lt. c.loop-row.invariant k lt }))
 

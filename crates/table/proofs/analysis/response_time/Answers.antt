@@ -23,8 +23,8 @@ pub returns : goal.returns
 returns c =
     sym (least_none (suffices c.args.table.now c.args.row) 1 _ (λ v some v_below. c.loop-ticks.invariant v some (omega arith)))
 
-pub overflow-step-ticks : goal.overflow-step-ticks
-overflow-step-ticks c =
+pub overflow_step-ticks : goal.overflow_step-ticks
+overflow_step-ticks c =
     let l = limits_at c.args.table.now c.requires.0 c.args.row c.requires.1.1 in
     omega arith
 

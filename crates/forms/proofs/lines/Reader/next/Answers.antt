@@ -10,13 +10,13 @@ returns-then-start-text c =
     let none : lines_left self ≡ [] = ap (lines self.place) (drop_all self.place.byte self.text.now (omega arith)) in
     record { hands = (none, none); counts = refl; lies = tt; keeps = refl }
 
-pub invariant-of-self : goal.invariant-of-self
-invariant-of-self c = (c.args.self.now.short, (omega arith, (omega (arith, c.args.self.now.counts), tt)))
+pub invariant_of-self : goal.invariant_of-self
+invariant_of-self c = (c.args.self.now.short, (omega arith, (omega (arith, c.args.self.now.counts), tt)))
 
 pub returns : goal.returns
 returns c =
     let self = c.args.self.now in
-    let split = lines_from self.text.now self.place c.line-end-end.result c.min.result (omega arith) c.line-end-end.ensures.value c.min.ensures in
+    let split = lines_from self.text.now self.place c.line_end-end.result c.min.result (omega arith) c.line_end-end.ensures.value c.min.ensures in
     record {
       hands = split;
       counts = omega (arith, ap length split);

@@ -15,19 +15,19 @@ returns-then-place-len c =
     let refused = refused_place table c.args.place c.args.duty (omega (arith, c.args.self.now.counts)) in
     record { answers = sym refused; leaves = sym (refused_leaves table c.args.place c.args.duty _ _ refused) }
 
-pub returns-then-not-within-limits : goal.returns-then-not-within-limits
-returns-then-not-within-limits c =
+pub returns-then-not-within_limits : goal.returns-then-not-within_limits
+returns-then-not-within_limits c =
     let table = table_of c.args.self.now in
     let near : c.args.place ≤ length table = omega (arith, c.args.self.now.counts) in
-    let refused = refused_limits table c.args.place c.args.duty near (sym c.if-not-within-limits.ensures) in
+    let refused = refused_limits table c.args.place c.args.duty near (sym c.if-not-within_limits.ensures) in
     record { answers = sym refused; leaves = sym (refused_leaves table c.args.place c.args.duty _ _ refused) }
 
-pub returns-then-len-ge-MOST-ROWS : goal.returns-then-len-ge-MOST-ROWS
-returns-then-len-ge-MOST-ROWS c =
+pub returns-then-len-ge-MOST_ROWS : goal.returns-then-len-ge-MOST_ROWS
+returns-then-len-ge-MOST_ROWS c =
     let table = table_of c.args.self.now in
     let near : c.args.place ≤ length table = omega (arith, c.args.self.now.counts) in
     let full : 16 ≤ length table = omega (arith, c.args.self.now.counts) in
-    let refused = refused_full table c.args.place c.args.duty near (sym c.if-not-within-limits.ensures) full in
+    let refused = refused_full table c.args.place c.args.duty near (sym c.if-not-within_limits.ensures) full in
     record { answers = sym refused; leaves = sym (refused_leaves table c.args.place c.args.duty _ _ refused) }
 
 -- The new table, as the code holds and cuts it, for a place and a duty that are good and a row free.
@@ -57,11 +57,11 @@ module _ (s : Setting) (duties : List Duty) (place : ℕ) (d : Duty)
       says_admitted (insert (table_of s) place d)
       (record { few = omega (arith, new_length); within = new_within; on_time = sym (e ∙ ap first_late cut) })
 
-pub first-late-requires : goal.first-late-requires
-first-late-requires c =
+pub first_late-requires : goal.first_late-requires
+first_late-requires c =
     let s = c.args.self.now in
-    let good = c.if-not-within-limits.ensures in
-    let made = c.with-duty-duties.ensures in (
+    let good = c.if-not-within_limits.ensures in
+    let made = c.with_duty-duties.ensures in (
       ap all_within (cut s _ _ _ (omega arith) good (omega arith) made) ∙ new_within s _ _ _ (omega arith) good (omega arith) made,
       omega (arith, ap length (cut s _ _ _ (omega arith) good (omega arith) made), new_length s _ _ _ (omega arith) good (omega arith) made),
     )
@@ -69,26 +69,26 @@ first-late-requires c =
 pub returns-in-Some : goal.returns-in-Some
 returns-in-Some c =
     let s = c.args.self.now in
-    let refused = analysed s _ _ _ (omega arith) c.if-not-within-limits.ensures (omega arith) c.with-duty-duties.ensures _ c.in-Some.ensures in
+    let refused = analysed s _ _ _ (omega arith) c.if-not-within_limits.ensures (omega arith) c.with_duty-duties.ensures _ c.in-Some.ensures in
     record { answers = sym refused; leaves = sym (refused_leaves (table_of s) c.args.place c.args.duty _ _ refused) }
 
-pub invariant-of-self : goal.invariant-of-self
-invariant-of-self c =
+pub invariant_of-self : goal.invariant_of-self
+invariant_of-self c =
     let s = c.args.self.now in
-    let good = c.if-not-within-limits.ensures in
-    let made = c.with-duty-duties.ensures in (
+    let good = c.if-not-within_limits.ensures in
+    let made = c.with_duty-duties.ensures in (
       omega arith,
       (
         ap length made ∙ new_length s _ _ _ (omega arith) good (omega arith) made,
-        (ap admitted made ∙ new_admitted s _ _ _ (omega arith) good (omega arith) made c.in-default.ensures, tt),
+        (ap admitted made ∙ new_admitted s _ _ _ (omega arith) good (omega arith) made c.in_default.ensures, tt),
       ),
     )
 
 pub returns : goal.returns
 returns c =
     let s = c.args.self.now in
-    let accepted = analysed s _ _ _ (omega arith) c.if-not-within-limits.ensures (omega arith) c.with-duty-duties.ensures _ c.in-default.ensures in
+    let accepted = analysed s _ _ _ (omega arith) c.if-not-within_limits.ensures (omega arith) c.with_duty-duties.ensures _ c.in_default.ensures in
     record {
       answers = sym accepted;
-      leaves = c.with-duty-duties.ensures ∙ sym (accepted_leaves (table_of s) c.args.place c.args.duty accepted);
+      leaves = c.with_duty-duties.ensures ∙ sym (accepted_leaves (table_of s) c.args.place c.args.duty accepted);
     }

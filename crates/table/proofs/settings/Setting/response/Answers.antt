@@ -9,5 +9,5 @@ pub unwrap-requires : goal.unwrap-requires
 unwrap-requires c =
     let s = c.args.self.now in
     let row-there : c.args.row < length (table_of s) = omega (arith, s.counts) in
-    ap is_some (c.response-time.ensures ∙ ap (λ (t : List Duty). response t c.args.row) c.rows.ensures)
+    ap is_some (c.response_time.ensures ∙ ap (λ (t : List Duty). response t c.args.row) c.rows.ensures)
     ∙ has_response (table_of s) s.admits c.args.row row-there
