@@ -17,7 +17,7 @@ pub trait Ranked {
 
 // Neither entry is before the other.
 pub fn same_rank<E: Ranked>(x: &E, y: &E) -> bool
-    ensures { result ≡ same_rank before x.now y.now }
+    ensures { result ≡ same_rank E.before x.now y.now }
 {
     !x.is_before(y) && !y.is_before(x)
 }

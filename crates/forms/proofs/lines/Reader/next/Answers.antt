@@ -11,7 +11,8 @@ returns-then-start-text c =
     record { hands = (none, none); counts = refl; lies = tt; keeps = refl }
 
 pub invariant_of-self : goal.invariant_of-self
-invariant_of-self c = (c.args.self.now.short, (omega arith, (omega (arith, c.args.self.now.counts), tt)))
+invariant_of-self c =
+    record { short = c.args.self.now.short; within = omega arith; counts = omega (arith, c.args.self.now.counts) }
 
 pub returns : goal.returns
 returns c =

@@ -76,13 +76,12 @@ pub invariant_of-self : goal.invariant_of-self
 invariant_of-self c =
     let s = c.args.self.now in
     let good = c.if-not-within_limits.ensures in
-    let made = c.with_duty-duties.ensures in (
-      omega arith,
-      (
-        ap length made ∙ new_length s _ _ _ (omega arith) good (omega arith) made,
-        (ap admitted made ∙ new_admitted s _ _ _ (omega arith) good (omega arith) made c.in_default.ensures, tt),
-      ),
-    )
+    let made = c.with_duty-duties.ensures in
+    record {
+      fits = omega arith;
+      counts = ap length made ∙ new_length s _ _ _ (omega arith) good (omega arith) made;
+      admits = ap admitted made ∙ new_admitted s _ _ _ (omega arith) good (omega arith) made c.in_default.ensures;
+    }
 
 pub returns : goal.returns
 returns c =
