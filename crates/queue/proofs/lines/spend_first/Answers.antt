@@ -7,13 +7,13 @@ use Rattle.model.specs.Queues.{Spend}
 use Rattle.queue.proofs.Calling.{spend_none, spent_none, spend_last, spent_last, spend_unit, spent_unit, keeps_rank}
 use Rattle.queue.proofs.lines.spend_first.Goals as goal
 
-pub returns-in-err-slot : goal.returns-in-err-slot
-returns-in-err-slot c =
+pub returns-in_err-slot : goal.returns-in_err-slot
+returns-in_err-slot c =
     let l = c.args.line.now in
-    let none = c.in-err-slot.ensures in
+    let none = c.in_err-slot.ensures in
     record {
       spends = λ _.
-          subst (λ o. Spend (line_meaning l) o (line_meaning l)) (sym c.from-residual.ensures) (spend_none l none);
+          subst (λ o. Spend (line_meaning l) o (line_meaning l)) (sym c.from_residual.ensures) (spend_none l none);
       lines = spent_none l none;
       order = λ h. h;
     }
@@ -21,8 +21,8 @@ returns-in-err-slot c =
 pub returns-then-errand-le1 : goal.returns-then-errand-le1
 returns-then-errand-le1 c =
     let l = c.args.line.now in
-    let s = c.in-ok-slot.slot in
-    let at = c.in-ok-slot.ensures in
+    let s = c.in_ok-slot.slot in
+    let at = c.in_ok-slot.ensures in
     let m = c.remove.new.self in
     let number : s.errand.number ≡ c.errand-errand.result.number = ap (λ e. e.number) (sym c.errand-errand.ensures) in
     let last : s.errand.units ≤ 1 = omega (arith, ap (λ e. e.units) c.errand-errand.ensures) in
@@ -37,8 +37,8 @@ returns-then-errand-le1 c =
 pub returns-else-errand-le1 : goal.returns-else-errand-le1
 returns-else-errand-le1 c =
     let l = c.args.line.now in
-    let s = c.in-ok-slot.slot in
-    let at = c.in-ok-slot.ensures in
+    let s = c.in_ok-slot.slot in
+    let at = c.in_ok-slot.ensures in
     let m = c.replace.new.self in
     let number : s.errand.number ≡ c.errand-errand.result.number = ap (λ e. e.number) (sym c.errand-errand.ensures) in
     let more : 1 < s.errand.units = omega (arith, ap (λ e. e.units) c.errand-errand.ensures) in

@@ -12,8 +12,8 @@ returns-in-Some c =
     let l = c.args.line.now in
     let n = c.args.number in
     let m = c.remove.new.self in
-    let at : c.place-of-place.result ≡ place_of n (errands (held l)) =
-    c.place-of-place.ensures ∙ ap (λ ss. place_of n (errands ss)) c.entries.ensures in
+    let at : c.place_of-place.result ≡ place_of n (errands (held l)) =
+    c.place_of-place.ensures ∙ ap (λ ss. place_of n (errands ss)) c.entries.ensures in
     let done = subst (λ i. Becomes l (remove (held l) i) m) at c.remove.ensures.becomes in
     record {
       takes = λ once.
@@ -28,8 +28,8 @@ returns-in-None c =
     let l = c.args.line.now in
     let n = c.args.number in
     let m = c.remove.new.self in
-    let at : c.place-of-place.result ≡ place_of n (errands (held l)) =
-    c.place-of-place.ensures ∙ ap (λ ss. place_of n (errands ss)) c.entries.ensures in
+    let at : c.place_of-place.result ≡ place_of n (errands (held l)) =
+    c.place_of-place.ensures ∙ ap (λ ss. place_of n (errands ss)) c.entries.ensures in
     let done = subst (λ i. Becomes l (remove (held l) i) m) at c.remove.ensures.becomes in
     record {
       takes = λ once.

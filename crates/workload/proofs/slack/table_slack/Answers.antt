@@ -20,20 +20,20 @@ window-end-requires c =
     let row = row_ahead c.args.clock c.args.duties.now c.args.rows.now c.requires.0 c.requires.1 c.loop-i.i (omega arith) in
     (row.limits, (row.numbers, row.window_ahead))
 
-pub slice-bounds-idle-ticks-end : goal.slice-bounds-idle-ticks-end
-slice-bounds-idle-ticks-end c =
+pub slice_bounds-idle_ticks-end : goal.slice_bounds-idle_ticks-end
+slice_bounds-idle_ticks-end c =
     let same = (kept_gives c.args.clock c.args.duties.now c.args.rows.now c.requires.1).numbers.same_length in
     let few : c.loop-i.i + 1 ≤ 16 = omega (arith, (admitted_says c.args.duties.now c.requires.0).few) in
     search rules
 
-pub idle-ticks-requires : goal.idle-ticks-requires
-idle-ticks-requires c =
+pub idle_ticks-requires : goal.idle_ticks-requires
+idle_ticks-requires c =
     let table = c.args.duties.now in
     let same = (kept_gives c.args.clock table c.args.rows.now c.requires.1).numbers.same_length in
     let cut = cut_streams c.args.clock table c.args.rows.now c.streams-streams.result c.requires.0 c.requires.1 c.streams-streams.ensures c.loop-i.i (omega arith) in
     let tame = streams_tame c.args.clock table c.args.rows.now same (row_ahead c.args.clock table c.args.rows.now c.requires.0 c.requires.1) in (
       ap all_tame cut ∙ tame_take (suc c.loop-i.i) (streams_of c.args.clock table c.args.rows.now) tame,
-      (simp length-take (omega (arith, (admitted_says table c.requires.0).few)), c.window_end.ensures.bound),
+      (simp length-take (omega (arith, (admitted_says table c.requires.0).few)), c.window-end.ensures.bound),
     )
 
 pub loop-i-preserved : goal.loop-i-preserved
@@ -45,13 +45,13 @@ loop-i-preserved c =
     let streams = take (c.loop-i.i + 1 - 0) c.streams-streams.result in
     let this : c.idle_ticks.result ≡ slacks c.loop-i.i =
     c.idle_ticks.ensures
-    ∙ ap (idle_ticks (all_ask streams)) c.window_end.ensures.value
+    ∙ ap (idle_ticks (all_ask streams)) c.window-end.ensures.value
     ∙ idle_is_slack c.args.clock table rows c.streams-streams.result c.requires.0 c.requires.1 c.streams-streams.ensures c.loop-i.i (omega arith) in
-    let small = idle_at_most (all_ask streams) (all_ask_rising streams) c.window_end.result in
+    let small = idle_at_most (all_ask streams) (all_ask_rising streams) c.window-end.result in
     c.min-least.ensures
     ∙ ap (λ (n : ℕ). min n c.idle_ticks.result) c.loop-i.invariant
     ∙ ap (min (least_of slacks c.loop-i.i)) this
-    ∙ least_of_more slacks c.loop-i.i (omega (arith, small, this, c.idle_ticks.ensures, c.window_end.ensures.bound))
+    ∙ least_of_more slacks c.loop-i.i (omega (arith, small, this, c.idle_ticks.ensures, c.window-end.ensures.bound))
 
 pub returns : goal.returns
 returns c =

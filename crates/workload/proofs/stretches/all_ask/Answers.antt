@@ -20,8 +20,8 @@ pub asks-sum-requires : goal.asks-sum-requires
 asks-sum-requires c =
     (tame_at c.args.streams.now c.loop-stream.stream-index no_stream c.requires.0 (omega arith), omega arith)
 
-pub overflow-add-sum : goal.overflow-add-sum
-overflow-add-sum c = omega (arith, turn c, all_ask_small c.args.streams.now c.args.ticks c.requires.0 c.requires.1.1)
+pub overflow_add-sum : goal.overflow_add-sum
+overflow_add-sum c = omega (arith, turn c, all_ask_small c.args.streams.now c.args.ticks c.requires.0 c.requires.1.1)
 
 pub loop-stream-preserved : goal.loop-stream-preserved
 loop-stream-preserved c = turn c

@@ -19,9 +19,9 @@ pub window-preserved : goal.window-preserved
 window-preserved c =
     let ss = c.args.streams.now in (
       omega arith,
-      sym (idle_until (all_ask ss) (all_ask_rising ss) c.busy.at c.window.idle c.busy.invariant.1 c.quiet-until-until.result
-          (omega (arith, c.quiet-until-until.ensures.low))
-          c.quiet-until-until.ensures.quiet
+      sym (idle_until (all_ask ss) (all_ask_rising ss) c.busy.at c.window.idle c.busy.invariant.1 c.quiet_until-until.result
+          (omega (arith, c.quiet_until-until.ensures.low))
+          c.quiet_until-until.ensures.quiet
           (omega (arith, c.all_ask.ensures.sum))),
       omega arith,
     )

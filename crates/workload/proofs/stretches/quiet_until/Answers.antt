@@ -5,8 +5,8 @@ use Rattle.workload.specs.declared.streams.Stream.{Stream}
 use Rattle.workload.proofs.Tame.{all_ask_rising, all_ask_take, asks_rising, no_stream, still_until, tame_at}
 use Rattle.workload.proofs.stretches.quiet_until.Goals as goal
 
-pub next-job-requires : goal.next-job-requires
-next-job-requires c =
+pub next_job-requires : goal.next_job-requires
+next_job-requires c =
     (tame_at c.args.streams.now c.loop-stream.stream-index no_stream c.requires.0 (omega arith), omega arith)
 
 pub loop-stream-preserved : goal.loop-stream-preserved
@@ -14,9 +14,9 @@ loop-stream-preserved c =
     let ss = c.args.streams.now in
     let k = c.loop-stream.stream-index in
     let until = c.min-until.result in
-    let low : c.args.ticks ≤ until = omega (arith, c.next-job.ensures.low) in
+    let low : c.args.ticks ≤ until = omega (arith, c.next_job.ensures.low) in
     let before = still_until (all_ask (take k ss)) (all_ask_rising (take k ss)) c.args.ticks until c.loop-stream.until low (omega arith) c.loop-stream.invariant.2 in
-    let here = still_until (asks (get_or ss k no_stream)) (asks_rising (get_or ss k no_stream)) c.args.ticks until c.next-job.result low (omega arith) c.next-job.ensures.same in (
+    let here = still_until (asks (get_or ss k no_stream)) (asks_rising (get_or ss k no_stream)) c.args.ticks until c.next_job.result low (omega arith) c.next_job.ensures.same in (
       low,
       omega arith,
       omega (arith, before, here, all_ask_take ss k until c.loop-stream-test.true, all_ask_take ss k c.args.ticks c.loop-stream-test.true),

@@ -27,15 +27,14 @@ left : (w : Workload) (i : ℕ) (call : RowCall) (duties : List Duty) (row : Row
 left w i call duties row same leaves =
     leaves ∙ ap (λ (table : List Duty). acted (duty_at table i) w.clock (get_or w.rows i no_row) call) same
 
-pub invariant-of-self : goal.invariant-of-self
-invariant-of-self c =
+pub invariant_of-self : goal.invariant_of-self
+invariant_of-self c =
     let w = c.args.self.now in
-    let short : c.args.row < length (table_in w) = omega (arith, ap length c.rows-duties.ensures) in (
-      ap (λ (row : Row). kept w.clock (table_in w) (take (length (table_in w)) (set w.rows c.args.row row)))
+    let short : c.args.row < length (table_in w) = omega (arith, ap length c.rows-duties.ensures) in record {
+      keeps = ap (λ (row : Row). kept w.clock (table_in w) (take (length (table_in w)) (set w.rows c.args.row row)))
           (left w c.args.row c.args.call _ _ c.rows-duties.ensures c.act.ensures.leaves)
-          ∙ asked_keeps w.clock (table_in w) w.rows c.args.row c.args.call w.setting.admits w.keeps short,
-      tt,
-    )
+          ∙ asked_keeps w.clock (table_in w) w.rows c.args.row c.args.call w.setting.admits w.keeps short;
+    }
 
 pub returns : goal.returns
 returns c =

@@ -21,26 +21,25 @@ run_slots w i duties row same leaves =
     ap (λ (x : Row). take (length (table_in w)) (set w.rows i x))
     (leaves ∙ ap (λ (table : List Duty). acted (duty_at table i) w.clock (get_or w.rows i no_row) Run) same)
 
-pub offset-bounds-rows-row : goal.offset-bounds-rows-row
-offset-bounds-rows-row c = omega (arith, ready_few c.args.self.now c.args.row c.requires.1)
+pub offset_bounds-rows-row : goal.offset_bounds-rows-row
+offset_bounds-rows-row c = omega (arith, ready_few c.args.self.now c.args.row c.requires.1)
 
 pub bounds-rows-row : goal.bounds-rows-row
 bounds-rows-row c = omega (arith, ready_inside c.args.self.now c.args.row c.requires.1, ap length c.rows.ensures)
 
-pub offset-bounds-self-row : goal.offset-bounds-self-row
-offset-bounds-self-row c = omega (arith, ready_few c.args.self.now c.args.row c.requires.1)
+pub offset_bounds-self-row : goal.offset_bounds-self-row
+offset_bounds-self-row c = omega (arith, ready_few c.args.self.now c.args.row c.requires.1)
 
 pub bounds-self-row : goal.bounds-self-row
 bounds-self-row c = ready_few c.args.self.now c.args.row c.requires.1
 
-pub invariant-of-self : goal.invariant-of-self
-invariant-of-self c =
-    let w = c.args.self.now in (
-      ap (kept (w.clock + 1) (table_in w))
+pub invariant_of-self : goal.invariant_of-self
+invariant_of-self c =
+    let w = c.args.self.now in record {
+      keeps = ap (kept (w.clock + 1) (table_in w))
           (run_slots w c.args.row _ _ c.rows.ensures c.act.ensures.leaves ∙ row_run w c.args.row c.requires.1)
-          ∙ run_kept w c.args.row c.requires.1,
-      tt,
-    )
+          ∙ run_kept w c.args.row c.requires.1;
+    }
 
 pub returns : goal.returns
 returns c =

@@ -13,10 +13,10 @@ idle_rows s =
     let few : length (table_of s) ≤ 16 = omega (arith, s.counts, s.fits) in
     take-replicate (length (table_of s)) 16 (Idle 0) few
 
-pub invariant-of-result : goal.invariant-of-result
-invariant-of-result c =
+pub invariant_of-result : goal.invariant_of-result
+invariant_of-result c =
     let s = c.args.setting in
-    (ap (kept 0 (table_of s)) (idle_rows s) ∙ fresh_kept (table_of s) s.admits, tt)
+    record { keeps = ap (kept 0 (table_of s)) (idle_rows s) ∙ fresh_kept (table_of s) s.admits }
 
 pub returns : goal.returns
 returns c = record { table = refl; rows = idle_rows c.args.setting; clock = refl }

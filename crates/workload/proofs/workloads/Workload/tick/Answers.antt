@@ -4,8 +4,8 @@ use Rattle.workload.specs.Acts.{slack_in}
 use Rattle.workload.specs.Workloads.{rows_in, table_in}
 use Rattle.workload.proofs.workloads.Workload.tick.Goals as goal
 
-pub invariant-of-self : goal.invariant-of-self
-invariant-of-self c =
+pub invariant_of-self : goal.invariant_of-self
+invariant_of-self c =
     let w = c.args.self.now in
     let some : 1 ≤ slack_in w = omega (arith, c.slack-slack.ensures) in
-    (spare_tick_keeps (table_in w) w.setting.admits w.clock (rows_in w) w.keeps some, tt)
+    record { keeps = spare_tick_keeps (table_in w) w.setting.admits w.clock (rows_in w) w.keeps some }

@@ -7,13 +7,13 @@ use Rattle.queue.proofs.arrivals.calls.FirstComeQueue.put.Goals as goal
 pub returns : goal.returns
 returns c =
     let l = c.args.self.now.line in
-    let m = c.put-in.new.line in
-    let s = c.in-ok-slot.slot in
-    let made = c.in-ok-slot.ensures in
+    let m = c.put_in.new.line in
+    let s = c.in_ok-slot.slot in
+    let made = c.in_ok-slot.ensures in
     let within : errand_within s.errand ≡ true = ap errand_within made.1.errand ∙ made.0 in
     record {
       means =
-          subst (λ e. Put (line_meaning l) e c.put-in.result (line_meaning m)) made.1.errand
-          (c.put-in.ensures.puts within c.args.self.now.once);
-      arrives = arrives_last l m s c.args.errand c.put-in.result made.1.errand made.1.worth_put c.put-in.ensures.lines;
+          subst (λ e. Put (line_meaning l) e c.put_in.result (line_meaning m)) made.1.errand
+          (c.put_in.ensures.puts within c.args.self.now.once);
+      arrives = arrives_last l m s c.args.errand c.put_in.result made.1.errand made.1.worth_put c.put_in.ensures.lines;
     }

@@ -7,6 +7,6 @@ use Rattle.queue.proofs.arrivals.calls.FirstComeQueue.take.Goals as goal
 pub returns : goal.returns
 returns c =
     record {
-      means = c.take-out.ensures.takes c.args.self.now.once;
-      leaves = ap errands c.take-out.ensures.lines ∙ errands_leaving c.args.number (held c.args.self.now.line);
+      means = c.take_out.ensures.takes c.args.self.now.once;
+      leaves = ap errands c.take_out.ensures.lines ∙ errands_leaving c.args.number (held c.args.self.now.line);
     }

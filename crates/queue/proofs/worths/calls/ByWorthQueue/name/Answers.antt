@@ -8,6 +8,6 @@ pub returns : goal.returns
 returns c =
     record {
       means = c.first_number.ensures;
-      some-order = stands_for_itself (held c.args.self.now.line) c.args.self.now.ordered;
+      some_order = stands_for_itself (held c.args.self.now.line) c.args.self.now.ordered;
       best = λ came stands. c.first_number.ensures ∙ ap (λ ss. first_number (errands ss)) stands ∙ first_is_best came;
     }

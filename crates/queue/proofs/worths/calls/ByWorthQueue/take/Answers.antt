@@ -5,6 +5,6 @@ pub returns : goal.returns
 returns c =
     let once = c.args.self.now.once in
     record {
-      means = c.take-out.ensures.takes once;
-      leaves = stands_take c.args.self.now.line c.take-out.new.line c.args.number once c.take-out.ensures.lines;
+      means = c.take_out.ensures.takes once;
+      leaves = stands_take c.args.self.now.line c.take_out.new.line c.args.number once c.take_out.ensures.lines;
     }
