@@ -14,7 +14,7 @@ use workload::{Turn, Workload};
 impl<Q: Queue> Dispatcher<Q> {
     // Starts a setting over a queue, whatever the queue holds.
     pub fn start(setting: Setting, queue: Q) -> Dispatcher<Q>
-        ensures state { view meaning result ≡ fresh (table_of setting) (meaning queue) }
+        ensures state { view Q.meaning result ≡ fresh (table_of setting) (Q.meaning queue) }
         ensures table { duties result ≡ table_of setting }
     {
         Dispatcher {
@@ -25,7 +25,7 @@ impl<Q: Queue> Dispatcher<Q> {
 
     // Releases a job of a row.
     pub fn release(&mut self, row: u32) -> Result<(), Refusal>
-        ensures step { RowCalled (duties self.old) (view meaning self.old) row Release result (view meaning self.new) }
+        ensures step { RowCalled (duties self.old) (view Q.meaning self.old) row Release result (view Q.meaning self.new) }
         ensures table { duties self.new ≡ duties self.old }
     {
         self.work.release(row)
@@ -33,7 +33,7 @@ impl<Q: Queue> Dispatcher<Q> {
 
     // Ends the job of a row before it has had all its ticks.
     pub fn done(&mut self, row: u32) -> Result<(), Refusal>
-        ensures step { RowCalled (duties self.old) (view meaning self.old) row Done result (view meaning self.new) }
+        ensures step { RowCalled (duties self.old) (view Q.meaning self.old) row Done result (view Q.meaning self.new) }
         ensures table { duties self.new ≡ duties self.old }
     {
         self.work.done(row)
@@ -41,7 +41,7 @@ impl<Q: Queue> Dispatcher<Q> {
 
     // Has an errand wait.
     pub fn request(&mut self, errand: Errand) -> Result<(), Refusal>
-        ensures step { Requested (view meaning self.old) errand result (view meaning self.new) }
+        ensures step { Requested (view Q.meaning self.old) errand result (view Q.meaning self.new) }
         ensures table { duties self.new ≡ duties self.old }
     {
         self.queue.put(errand)
@@ -49,7 +49,7 @@ impl<Q: Queue> Dispatcher<Q> {
 
     // Drops an errand, and answers the units that it had left.
     pub fn withdraw(&mut self, number: u32) -> Result<u32, Refusal>
-        ensures step { Withdraws (view meaning self.old) number result (view meaning self.new) }
+        ensures step { Withdraws (view Q.meaning self.old) number result (view Q.meaning self.new) }
         ensures table { duties self.new ≡ duties self.old }
     {
         self.queue.take(number)
@@ -57,21 +57,21 @@ impl<Q: Queue> Dispatcher<Q> {
 
     // The table's slack.
     pub fn slack(&self) -> u32
-        ensures { result ≡ slack_of (duties self.now) (view meaning self.now) }
+        ensures { result ≡ slack_of (duties self.now) (view Q.meaning self.now) }
     {
         self.work.slack()
     }
 
     // An errand waits.
     fn errand_waits(&self) -> bool
-        ensures { result ≡ waits (meaning self.now.queue) }
+        ensures { result ≡ waits (Q.meaning self.now.queue) }
     {
         self.queue.name().is_some()
     }
 
     // One tick: the slack before it, and who had it.
     pub fn tick(&mut self) -> Result<(u32, Who), Refusal>
-        ensures step { Ticks (duties self.old) (view meaning self.old) result (view meaning self.new) }
+        ensures step { Ticks (duties self.old) (view Q.meaning self.old) result (view Q.meaning self.new) }
         ensures table { duties self.new ≡ duties self.old }
     {
         let errand_waits = self.errand_waits();
@@ -86,7 +86,7 @@ impl<Q: Queue> Dispatcher<Q> {
 
     // Any of the six calls, with its answer.
     pub fn carry_out(&mut self, call: Call) -> Answer
-        ensures step { Step (duties self.old) (view meaning self.old) call result (view meaning self.new) }
+        ensures step { Step (duties self.old) (view Q.meaning self.old) call result (view Q.meaning self.new) }
         ensures table { duties self.new ≡ duties self.old }
     {
         match call {

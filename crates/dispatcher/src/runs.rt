@@ -15,7 +15,7 @@ use table::Setting;
 // machine's, every deadline is met, each spare tick goes to an errand exactly when that can hurt nobody, and the
 // accounts of every errand balance.
 pub fn run<Q: Queue>(setting: Setting, queue: Q, script: &mut [Entry]) -> Dispatcher<Q>
-    ensures promise { Promise (table_of setting) (meaning queue) (trace_of script.new) (view meaning result) }
+    ensures promise { Promise (table_of setting) (Q.meaning queue) (trace_of script.new) (view Q.meaning result) }
     ensures calls { calls_of script.new ≡ calls_of script.old }
     ensures table { duties result ≡ table_of setting }
 {

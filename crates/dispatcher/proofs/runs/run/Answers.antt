@@ -19,15 +19,15 @@ loop-i-preserved g c =
     let (run, table, calls) = c.loop-i.invariant in
     let script = c.loop-i.script in
     let i = c.loop-i.i in
-    let answer = c.carry-out.result in
+    let answer = c.carry_out.result in
     let first = c.start-dispatcher.result in
     let before = view g.Q.Queue.meaning c.loop-i.dispatcher in
-    let after = view g.Q.Queue.meaning c.carry-out.new.self in
+    let after = view g.Q.Queue.meaning c.carry_out.new.self in
     let short : i < length script = omega arith in
-    let next = subst (λ (t : List Duty). Step t before (get_or script i no_entry).call answer after) table c.carry-out.ensures.step in (
+    let next = subst (λ (t : List Duty). Step t before (get_or script i no_entry).call answer after) table c.carry_out.ensures.step in (
       subst (λ (t : Trace). Run (duties first) (view g.Q.Queue.meaning first) t after)
           (sym (trace_more script i answer short)) (run_more (get_or script i no_entry).call answer run next),
-      c.carry-out.ensures.table ∙ table,
+      c.carry_out.ensures.table ∙ table,
       calls_stay script i answer short ∙ calls,
     )
 
