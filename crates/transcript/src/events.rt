@@ -8,11 +8,11 @@ ghost use Rattle.transcript.specs.Renderings.{duty_lines, event_lines};
 use crate::lines::{write_duty, write_event};
 use dispatcher::Entry;
 use model::Answer;
-use std::fmt;
+use std::alloc::AllocError;
 use table::Setting;
 
 // The response time of each row.
-pub(crate) fn write_duties(out: &mut String, setting: &Setting) -> fmt::Result
+pub(crate) fn write_duties(out: &mut String, setting: &Setting) -> Result<(), AllocError>
     ensures { OnOk result (string_bytes out.new ≡ string_bytes out.old ++ duty_lines (table_of setting.now) (length (table_of setting.now))) }
 {
     let rows = setting.rows().len() as u32;
@@ -35,7 +35,7 @@ fn ticks_of(answer: Answer) -> u64
 }
 
 // What happened from the clock 0 on.
-pub(crate) fn write_events(out: &mut String, script: &[Entry]) -> fmt::Result
+pub(crate) fn write_events(out: &mut String, script: &[Entry]) -> Result<(), AllocError>
     ensures { OnOk result (string_bytes out.new ≡ string_bytes out.old ++ event_lines 0 (trace_of script.now)) }
 {
     let mut clock = 0;

@@ -4,10 +4,10 @@ ghost use Rattle.transcript.specs.Lines.{call_word, duty_line, event_line, fault
 
 use forms::{Fault, Layer};
 use model::{Answer, Call, Who};
-use std::fmt;
+use std::alloc::AllocError;
 
 // The response time of a row.
-pub(crate) fn write_duty(out: &mut String, row: u32, response: u32) -> fmt::Result
+pub(crate) fn write_duty(out: &mut String, row: u32, response: u32) -> Result<(), AllocError>
     ensures { OnOk result (string_bytes out.new ≡ string_bytes out.old ++ duty_line row response) }
 {
     writeln!(out, "(duty {row} response {response})")
@@ -28,7 +28,7 @@ fn call_word(call: Call) -> &'static str
 }
 
 // A call that was refused.
-fn write_refused(out: &mut String, clock: u64, number: u32, call: Call) -> fmt::Result
+fn write_refused(out: &mut String, clock: u64, number: u32, call: Call) -> Result<(), AllocError>
     ensures { OnOk result (string_bytes out.new ≡ string_bytes out.old ++ refused_line clock number call) }
 {
     let word = call_word(call);
@@ -36,7 +36,7 @@ fn write_refused(out: &mut String, clock: u64, number: u32, call: Call) -> fmt::
 }
 
 // A tick: the slack before it, and who had it.
-fn write_tick(out: &mut String, clock: u64, slack: u32, who: Who) -> fmt::Result
+fn write_tick(out: &mut String, clock: u64, slack: u32, who: Who) -> Result<(), AllocError>
     ensures { OnOk result (string_bytes out.new ≡ string_bytes out.old ++ tick_line clock slack who) }
 {
     match who {
@@ -47,7 +47,12 @@ fn write_tick(out: &mut String, clock: u64, slack: u32, who: Who) -> fmt::Result
 }
 
 // A call with its answer: a refusal or a tick has a line, and what was accepted has none.
-pub(crate) fn write_event(out: &mut String, clock: u64, call: Call, answer: Answer) -> fmt::Result
+pub(crate) fn write_event(
+    out: &mut String,
+    clock: u64,
+    call: Call,
+    answer: Answer,
+) -> Result<(), AllocError>
     ensures { OnOk result (string_bytes out.new ≡ string_bytes out.old ++ event_line clock call answer) }
 {
     match answer {
@@ -64,7 +69,7 @@ pub(crate) fn write_totals(
     served: u128,
     withdrawn: u128,
     waiting: u128,
-) -> fmt::Result
+) -> Result<(), AllocError>
     ensures { OnOk result (string_bytes out.new ≡ string_bytes out.old ++ totals_line accepted served withdrawn waiting) }
 {
     writeln!(out, "(totals {accepted} {served} {withdrawn} {waiting})")
@@ -82,7 +87,7 @@ fn layer_word(layer: Layer) -> &'static str
 }
 
 // The one line of a text that is no sheet.
-pub(crate) fn write_fault(out: &mut String, fault: Fault) -> fmt::Result
+pub(crate) fn write_fault(out: &mut String, fault: Fault) -> Result<(), AllocError>
     ensures { OnOk result (string_bytes out.new ≡ string_bytes out.old ++ fault_line fault) }
 {
     let Fault {

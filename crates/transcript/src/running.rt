@@ -21,7 +21,7 @@ const PLACES: usize = 64;
 
 // Runs a script for its answers alone.
 fn answer<Q: Queue + Drop>(setting: Setting, queue: Q, script: &mut [Entry])
-    ensures runs { (end : State) × Promise (table_of setting) (meaning queue) (trace_of script.new) end }
+    ensures runs { (end : State) × Promise (table_of setting) (Q.meaning queue) (trace_of script.new) end }
     ensures calls { calls_of script.new ≡ calls_of script.old }
 {
     let _ = run(setting, queue, script);

@@ -4,7 +4,6 @@ ghost use Rattle.transcript.specs.declared.stops.Stop.TheVariants.{Fault as ForF
 
 use forms::Fault;
 use std::alloc::AllocError;
-use std::fmt;
 
 #[derive(Clone, Copy)]
 pub(crate) enum Stop {
@@ -26,15 +25,6 @@ impl From<AllocError> for Stop {
     ghost from_gives = { λ _ stop. stop ≡ ForMemory };
 
     fn from(_: AllocError) -> Stop {
-        Stop::Memory
-    }
-}
-
-// What is written to a text stops only for want of memory.
-impl From<fmt::Error> for Stop {
-    ghost from_gives = { λ _ stop. stop ≡ ForMemory };
-
-    fn from(_: fmt::Error) -> Stop {
         Stop::Memory
     }
 }

@@ -16,10 +16,9 @@ use dispatcher::Entry;
 use forms::Fault;
 use sheet::read;
 use std::alloc::{AllocError, Global};
-use std::fmt;
 
 // What happened in a run, and its totals. No more was served and withdrawn than was accepted.
-fn write_run(out: &mut String, script: &[Entry]) -> fmt::Result
+fn write_run(out: &mut String, script: &[Entry]) -> Result<(), AllocError>
     requires { total_served (trace_of script.now) + total_withdrawn (trace_of script.now) ≤ total_accepted (trace_of script.now) }
     ensures { OnOk result (string_bytes out.new ≡ string_bytes out.old ++ run_lines (trace_of script.now) (left_over (trace_of script.now))) }
 {

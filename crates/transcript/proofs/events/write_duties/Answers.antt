@@ -10,8 +10,8 @@ loop-row-preserved c =
     let row = c.loop-row.row in
     let start = string_bytes c.args.out.now in
     let before = string_bytes c.loop-row.out in
-    let after = string_bytes c.write-duty.new.out in
+    let after = string_bytes c.write_duty.new.out in
     let responds =
     subst (λ (r : Result ℕ Refusal). Responds table row r) c.unwrap-response.ensures c.response.ensures in
     duty_more table row c.unwrap-response.result start before after responds c.loop-row.invariant
-    c.in-ok-write-duty.ensures
+    c.in_ok-write_duty.ensures

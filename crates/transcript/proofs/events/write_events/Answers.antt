@@ -15,12 +15,12 @@ loop-entry-preserved c =
     let line = event_line clock e.call e.answer in
     let written = string_bytes c.loop-entry.out in
     let short : i < length script = omega arith in
-    let moved = c.ticks-of-clock.ensures in
+    let moved = c.ticks_of-clock.ensures in
     let (all, behind) = c.loop-entry.invariant in
     let more =
     events_more script i clock short
     ∙ ap (λ (k : ℕ). line ++ event_lines (clock + k) (trace_of (drop (i + 1) script))) (sym moved) in (
-      part_more written line _ _ _ (ap (λ (bs : List ℕ). written ++ bs) (sym more) ∙ all) c.in-ok-write-event.ensures,
+      part_more written line _ _ _ (ap (λ (bs : List ℕ). written ++ bs) (sym more) ∙ all) c.in_ok-write_event.ensures,
       omega (arith, at_most_one e.answer, moved),
     )
 

@@ -12,20 +12,20 @@ use Rattle.transcript.proofs.running.answered.Goals as goal
 pub returns : goal.returns
 returns c =
     let text = c.args.text.now in
-    let answered = c.answer-all.new.script in
-    let same = with_items_is c.in-ok-script.script answered (omega arith) in
-    let (end, ran) = c.answer-all.ensures.runs in
+    let answered = c.answer_all.new.script in
+    let same = with_items_is c.in_ok-script.script answered (omega arith) in
+    let (end, ran) = c.answer_all.ensures.runs in
     record {
       runs = (
         end,
         subst (λ (es : List Entry). Ran (set_by c.args.sheet).table (trace_of es) end) (sym same)
-            (subst (λ (table : List Duty). Ran table (trace_of answered) end) c.into-setting.ensures ran),
+            (subst (λ (table : List Duty). Ran table (trace_of answered) end) c.into_setting.ensures ran),
       );
       calls =
           ap calls_of same
-          ∙ c.answer-all.ensures.calls
-          ∙ ap calls_of c.as-mut-slice.ensures.value
-          ∙ c.in-ok-script.ensures
+          ∙ c.answer_all.ensures.calls
+          ∙ ap calls_of c.as_mut_slice.ensures.value
+          ∙ c.in_ok-script.ensures
           ∙ ap (λ (ats : List At). script_of text ats c.ticks.result) c.ats.ensures
           ∙ ap (λ (ticks : ℕ). script_of text (set_by c.args.sheet).ats ticks) c.ticks.ensures;
     }

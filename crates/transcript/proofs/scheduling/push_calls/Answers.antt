@@ -10,4 +10,4 @@ loop-call-preserved c =
     let call = c.in-Some.call in
     part_more (calls_of before) (call ∷ []) _ _ _
     (ap (λ (calls : List Call). calls_of before ++ calls) (sym c.in-Some.ensures) ∙ c.loop-call.invariant)
-    (calls_push before (vec_items c.push.new.self) c.pending.result call c.in-ok-push.ensures.items c.pending.ensures)
+    (calls_push before (vec_items c.push.new.self) c.pending.result call c.in_ok-push.ensures.items c.pending.ensures)

@@ -17,7 +17,7 @@ loop-next-preserved c =
     let (all, same) = c.loop-next.invariant in (
       part_more before (calls_at text (get_or line i untimed).at) _ _ _
           (ap (λ (calls : List Call). before ++ calls) (sym (calls_due_more line i c.args.clock text short now)) ∙ all)
-          c.in-ok-push-calls.ensures,
+          c.in_ok-push_calls.ensures,
       later_more line i c.args.clock short now ∙ same,
     )
 

@@ -17,11 +17,11 @@ loop-clock-preserved c =
     let clock = c.loop-clock.clock in
     let rest = drop c.loop-clock.next line in
     let before = vec_items c.loop-clock.script in
-    let between = vec_items c.push-due.new.script in
+    let between = vec_items c.push_due.new.script in
     let after = vec_items c.push.new.self in
     let (so_far, ahead) = c.loop-clock.invariant in (
       script_more c.args.text.now ats clock (due clock rest) (calls_of before) (calls_of between) (calls_of after) (due_now clock ats rest ahead)
-          so_far c.in-ok-next.ensures.calls
-          (calls_push between after c.pending.result Tick c.in-ok-push.ensures.items c.pending.ensures),
-      subst (λ (ts : List Timed). Ahead (clock + 1) ats ts) (sym c.in-ok-next.ensures.rest) (ahead_more clock ats rest ahead),
+          so_far c.in_ok-next.ensures.calls
+          (calls_push between after c.pending.result Tick c.in_ok-push.ensures.items c.pending.ensures),
+      subst (λ (ts : List Timed). Ahead (clock + 1) ats ts) (sym c.in_ok-next.ensures.rest) (ahead_more clock ats rest ahead),
     )

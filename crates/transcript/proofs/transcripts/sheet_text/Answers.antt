@@ -10,24 +10,24 @@ use Rattle.transcript.specs.Renderings.{duty_lines, left_over, run_lines}
 use Rattle.transcript.specs.Transcripts.{PrintedOf}
 use Rattle.transcript.proofs.transcripts.sheet_text.Goals as goal
 
-pub write-run-requires : goal.write-run-requires
-write-run-requires c =
-    let table = (set_by c.in-ok-sheet.sheet).table in
-    let script = vec_items c.in-ok-script.script in
-    let (end, ran) = c.in-ok-script.ensures.runs in
-    subst (λ (es : List Entry). total_served (trace_of es) + total_withdrawn (trace_of es) ≤ total_accepted (trace_of es)) (sym c.as-slice.ensures.value)
+pub write_run-requires : goal.write_run-requires
+write_run-requires c =
+    let table = (set_by c.in_ok-sheet.sheet).table in
+    let script = vec_items c.in_ok-script.script in
+    let (end, ran) = c.in_ok-script.ensures.runs in
+    subst (λ (es : List Entry). total_served (trace_of es) + total_withdrawn (trace_of es) ≤ total_accepted (trace_of es)) (sym c.as_slice.ensures.value)
     (accepted_covers table (trace_of script) end ran)
 
 pub returns : goal.returns
 returns c =
     let text = c.args.text.now in
-    let sheet = set_by c.in-ok-sheet.sheet in
-    let script = vec_items c.in-ok-script.script in
+    let sheet = set_by c.in_ok-sheet.sheet in
+    let script = vec_items c.in_ok-script.script in
     let start = string_bytes c.new-out.result in
-    let duties = string_bytes c.write-duties.new.out in
-    let out = string_bytes c.write-run.new.out in
-    let (end, ran) = c.in-ok-script.ensures.runs in
-    subst (λ (r : Result Set Fault). PrintedOf text r out) c.in-ok-sheet.ensures
-    (transcript_of text sheet script end start duties out ran c.in-ok-script.ensures.calls c.new-out.ensures.bytes
-    (c.in-ok-write-duties.ensures ∙ ap (λ (table : List Duty). start ++ duty_lines table (length table)) c.setting.ensures)
-    (c.in-ok-write-run.ensures ∙ ap (λ (es : List Entry). duties ++ run_lines (trace_of es) (left_over (trace_of es))) c.as-slice.ensures.value))
+    let duties = string_bytes c.write_duties.new.out in
+    let out = string_bytes c.write_run.new.out in
+    let (end, ran) = c.in_ok-script.ensures.runs in
+    subst (λ (r : Result Set Fault). PrintedOf text r out) c.in_ok-sheet.ensures
+    (transcript_of text sheet script end start duties out ran c.in_ok-script.ensures.calls c.new-out.ensures.bytes
+    (c.in_ok-write_duties.ensures ∙ ap (λ (table : List Duty). start ++ duty_lines table (length table)) c.setting.ensures)
+    (c.in_ok-write_run.ensures ∙ ap (λ (es : List Entry). duties ++ run_lines (trace_of es) (left_over (trace_of es))) c.as_slice.ensures.value))

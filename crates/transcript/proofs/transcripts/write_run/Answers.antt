@@ -11,10 +11,10 @@ returns c =
     let trace = trace_of c.args.script.now in
     let totals = c.of-totals.result in
     let start = string_bytes c.args.out.now in
-    let middle = string_bytes c.write-events.new.out in
-    let end = string_bytes c.write-totals.new.out in
-    IfOk-weaker c.write-totals.result (λ _. end ≡ middle ++ totals_line totals.accepted totals.served totals.withdrawn c.waiting.result)
+    let middle = string_bytes c.write_events.new.out in
+    let end = string_bytes c.write_totals.new.out in
+    IfOk-weaker c.write_totals.result (λ _. end ≡ middle ++ totals_line totals.accepted totals.served totals.withdrawn c.waiting.result)
     (λ _. end ≡ start ++ run_lines trace (left_over trace))
     (λ _ wrote. totals_behind trace totals.accepted totals.served totals.withdrawn c.waiting.result start middle end c.of-totals.ensures.accepted
-    c.of-totals.ensures.served c.of-totals.ensures.withdrawn c.waiting.ensures c.in-ok-write-events.ensures wrote)
-    c.write-totals.ensures
+    c.of-totals.ensures.served c.of-totals.ensures.withdrawn c.waiting.ensures c.in_ok-write_events.ensures wrote)
+    c.write_totals.ensures

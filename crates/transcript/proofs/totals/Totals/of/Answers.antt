@@ -13,9 +13,9 @@ loop-entry-preserved c =
       omega (arith, accepted, total_more script i (λ call answer. cond (was_accepted answer) (asked call) 0) short, c.accepted_by.ensures, c.from-accepted.ensures),
       omega (arith, served, total_more script i (λ call answer. of_tick any_errand_had answer) short, c.served_by.ensures, c.from-served.ensures),
       omega (arith, withdrawn, total_more script i (λ call answer. given_back answer) short, c.withdrawn_by.ensures, c.from-withdrawn.ensures),
-      omega (arith, few-accepted, c.accepted_by.type-inv, c.from-accepted.ensures),
-      omega (arith, few-served, c.served_by.type-inv, c.from-served.ensures),
-      omega (arith, few-withdrawn, c.withdrawn_by.type-inv, c.from-withdrawn.ensures),
+      omega (arith, few-accepted, c.accepted_by.type_inv, c.from-accepted.ensures),
+      omega (arith, few-served, c.served_by.type_inv, c.from-served.ensures),
+      omega (arith, few-withdrawn, c.withdrawn_by.type_inv, c.from-withdrawn.ensures),
     )
 
 pub returns : goal.returns
