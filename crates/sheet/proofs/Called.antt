@@ -1,6 +1,6 @@
 -- The at-lines of a sheet: their calls stand in the text, and come before the end.
 use Rattle.std.proofs.Common.{◌≡◌, ℕ, suc, ◌+◌, ◌<◌, Bool, true, false, cond, ◌&&◌, ltb, List, [], ◌∷◌, ◌++◌, length, take, drop, is_some, Some, None, Ok, Err, codes, Option, Result, unwrap_or, sym, refl, ap, ◌∙◌, subst, ⊎_elim, arith, length-append}
-use Rattle.std.specs.List.{flat_map, AllByRecursion as All}
+use Rattle.std.specs.List.{flat_map, AllByRecursion}
 use Rattle.std.specs.Option.{option_map}
 use Rattle.std.specs.Str.{bytes_eq}
 use Rattle.std.proofs.ByRecursion.{All-push}
@@ -40,7 +40,7 @@ cut_out before bytes end rest n size =
 
 -- Lines that follow each other behind some bytes stand in the text that they make.
 stand : (before : List ℕ) (p : Place) (ls : List Line) → length before ≡ p.byte → Follow p ls
-    → All (Stands (before ++ flat_map with_end ls)) ls
+    → AllByRecursion (Stands (before ++ flat_map with_end ls)) ls
 stand before p [] size follow = tt
 stand before p (l ∷ ls) size follow =
     let rest = flat_map with_end ls in (
@@ -51,9 +51,9 @@ stand before p (l ∷ ls) size follow =
           let end : length (cond l.ended (10 ∷ []) []) ≡ 1 = ap (λ (t : Bool). length {A = ℕ} (cond t (10 ∷ []) [])) ended in
           let longer : length (before ++ with_end l) ≡ p.byte + length l.bytes + 1 =
           omega (arith, length-append before (with_end l), length-append l.bytes (cond l.ended (10 ∷ []) [])) in
-          subst (λ (text : List ℕ). All (Stands text) ls) (append_assoc before (with_end l) rest)
+          subst (λ (text : List ℕ). AllByRecursion (Stands text) ls) (append_assoc before (with_end l) rest)
           (stand (before ++ with_end l) (behind p l) ls longer follow.3))
-          (λ last. subst (λ (xs : List Line). All (Stands (before ++ (with_end l ++ flat_map with_end xs))) xs) (sym last) tt)
+          (λ last. subst (λ (xs : List Line). AllByRecursion (Stands (before ++ (with_end l ++ flat_map with_end xs))) xs) (sym last) tt)
           follow.2,
     )
 
@@ -170,8 +170,8 @@ line_calls text l clock stands e =
     record { some = there.0; every = there.1 }
 
 -- Each line keeps the calls of the at-lines so far.
-with_calls : (text : List ℕ) (s : SoFar) (l : Line) (x : Said) → All (CallsStand text) s.ats
-    → ((clock : ℕ) → x ≡ AtClock clock → CallsStand text (at_line clock l)) → All (CallsStand text) (with_said s l x).ats
+with_calls : (text : List ℕ) (s : SoFar) (l : Line) (x : Said) → AllByRecursion (CallsStand text) s.ats
+    → ((clock : ℕ) → x ≡ AtClock clock → CallsStand text (at_line clock l)) → AllByRecursion (CallsStand text) (with_said s l x).ats
 with_calls text s l Sheet all new = all
 with_calls text s l (AddDuty place d) all new = all
 with_calls text s l (Queue name) all new = all
@@ -181,26 +181,26 @@ with_calls text s l Remark all new = all
 
 module _ (text : List ℕ) (t : SoFar) where
   one_line : (ls : List Line) (s : SoFar) (l : Line) (r : Result SoFar Fault) → line_judged s l ≡ r → Stands text l
-      → All (CallsStand text) s.ats
-      → ((u : SoFar) → All (CallsStand text) u.ats → lines_judged u ls ≡ Ok t → All (CallsStand text) t.ats)
+      → AllByRecursion (CallsStand text) s.ats
+      → ((u : SoFar) → AllByRecursion (CallsStand text) u.ats → lines_judged u ls ≡ Ok t → AllByRecursion (CallsStand text) t.ats)
       → elim r as (λ x. Result SoFar Fault) [ Ok u ↦ lines_judged u ls | Err f ↦ Err f ] ≡ Ok t
-      → All (CallsStand text) t.ats
+      → AllByRecursion (CallsStand text) t.ats
   one_line ls s l (Ok u) judged stands all next e =
       let is : u ≡ with_said s l (says l) = judged_value (with_said s l (says l)) u (letters_faults l ++ forms_faults l ++ sheet_faults s l ++ table_faults s l) u (sym judged) in
       next u
-      (subst (λ (v : SoFar). All (CallsStand text) v.ats) (sym is)
+      (subst (λ (v : SoFar). AllByRecursion (CallsStand text) v.ats) (sym is)
       (with_calls text s l (says l) all (λ clock e. line_calls text l clock stands e)))
       e
   one_line ls s l (Err f) judged stands all next e = absurd (let z : ◌≡◌ {A = ℕ} 0 1 = cc in omega arith)
 
-  lines_keep : (ls : List Line) (s : SoFar) → All (Stands text) ls → All (CallsStand text) s.ats → lines_judged s ls ≡ Ok t
-      → All (CallsStand text) t.ats
-  lines_keep [] s stands all e = let same : s ≡ t = cc in subst (λ (v : SoFar). All (CallsStand text) v.ats) same all
+  lines_keep : (ls : List Line) (s : SoFar) → AllByRecursion (Stands text) ls → AllByRecursion (CallsStand text) s.ats → lines_judged s ls ≡ Ok t
+      → AllByRecursion (CallsStand text) t.ats
+  lines_keep [] s stands all e = let same : s ≡ t = cc in subst (λ (v : SoFar). AllByRecursion (CallsStand text) v.ats) same all
   lines_keep (l ∷ ls) s stands all e =
       one_line ls s l (line_judged s l) refl stands.0 all (λ u all-u e-u. lines_keep ls u stands.1 all-u e-u) e
 
 -- No at-line is late.
-on_time : (ticks : ℕ) (ats : List At) → late ticks ats ≡ None → All (λ (a : At). a.clock < ticks) ats
+on_time : (ticks : ℕ) (ats : List At) → late ticks ats ≡ None → AllByRecursion (λ (a : At). a.clock < ticks) ats
 on_time ticks [] e = tt
 on_time ticks (a ∷ later) e =
     ⊎_elim
@@ -208,7 +208,7 @@ on_time ticks (a ∷ later) e =
     (λ over. absurd (let no = sym (cond-false _ _ _ over) ∙ e in let z : ◌≡◌ {A = ℕ} 0 1 = cc in omega arith))
     (cases_Bool (ltb a.clock ticks))
 
-whole_holds : (text : List ℕ) (missing : Place) (s : SoFar) (set : Set) → All (CallsStand text) s.ats → whole missing s ≡ Ok set
+whole_holds : (text : List ℕ) (missing : Place) (s : SoFar) (set : Set) → AllByRecursion (CallsStand text) s.ats → whole missing s ≡ Ok set
     → Holds text set
 whole_holds text missing s set all e =
     let made : Set = record { table = s.table; queue = s.queue; ats = s.ats; ticks = s.ticks } in
@@ -218,15 +218,15 @@ whole_holds text missing s set all e =
     subst (Holds text) (sym is) (record { called = all; before_end = on_time s.ticks s.ats none })
 
 lines_hold : (text : List ℕ) (missing : Place) (set : Set) (r : Result SoFar Fault)
-    → ((s : SoFar) → r ≡ Ok s → All (CallsStand text) s.ats) → of_lines missing r ≡ Ok set → Holds text set
+    → ((s : SoFar) → r ≡ Ok s → AllByRecursion (CallsStand text) s.ats) → of_lines missing r ≡ Ok set → Holds text set
 lines_hold text missing set (Ok s) called e = whole_holds text missing s set (called s refl) e
 lines_hold text missing set (Err f) called e = absurd (let z : ◌≡◌ {A = ℕ} 0 1 = cc in omega arith)
 
 -- Every line of a text stands in it.
-text_stands : (text : List ℕ) → All (Stands text) (lines first_place text)
+text_stands : (text : List ℕ) → AllByRecursion (Stands text) (lines first_place text)
 text_stands text =
     let made = taken_apart.by_lines first_place text in
-    subst (λ (xs : List ℕ). All (Stands xs) (lines first_place text)) made.whole
+    subst (λ (xs : List ℕ). AllByRecursion (Stands xs) (lines first_place text)) made.whole
     (stand [] first_place (lines first_place text) refl made.follow)
 
 unless_long : (text : List ℕ) (set : Set) (o : Option Fault) (r : Result Set Fault) → (r ≡ Ok set → Holds text set)

@@ -1,6 +1,6 @@
 -- What holds of every sheet that is read.
 use Rattle.std.specs.Prelude.{◌≡◌, ℕ, ◌<◌, List, length, Ok}
-use Rattle.std.specs.List.{AllByRecursion as All}
+use Rattle.std.specs.List.{AllByRecursion}
 use Rattle.sheet.specs.Ats.{call_items, calls_of}
 use Rattle.sheet.specs.Sheets.{Set, sheet_of}
 use Rattle.sheet.specs.declared.ats.At.{At}
@@ -12,8 +12,8 @@ pub record CallsStand (text : List ℕ) (a : At) : Type 0 where
 
 -- The calls of each at-line stand in the text, and come before the end.
 pub record Holds (text : List ℕ) (s : Set) : Type 0 where
-  pub called : All (CallsStand text) s.ats
-  pub before_end : All (λ (a : At). a.clock < s.ticks) s.ats
+  pub called : AllByRecursion (CallsStand text) s.ats
+  pub before_end : AllByRecursion (λ (a : At). a.clock < s.ticks) s.ats
 
 -- Every sheet is such.
 abbrev pub SheetsHold : Type 0
