@@ -1,11 +1,10 @@
 -- Nothing of a text is lost or made up when it is taken apart into lines, or a form into items.
-use Rattle.std.proofs.Common.{◌≡◌, ℕ, suc, ◌+◌, Bool, true, false, cond, not, ◌&&◌, eqb, ◌⊎◌, List, [], ◌∷◌, ◌++◌, length, sym, refl, ap, ◌∙◌, subst, inl, inr, ⊎_elim, arith}
+use Rattle.std.proofs.Common.{◌≡◌, ℕ, suc, ◌+◌, false, not, ◌&&◌, eqb, List, [], ◌∷◌, length, sym, refl, ap, ◌∙◌, subst, inl, inr, ⊎_elim, arith}
 use Rattle.std.specs.List.{flat_map}
 use Rattle.std.proofs.lemmas.Bool.{and_from, and_parts, cases_Bool, eqb-true}
 use Rattle.forms.specs.Forms.{space}
-use Rattle.forms.specs.Grammar.{all_of}
 use Rattle.forms.specs.Items.{item_begun_by, items, open_after}
-use Rattle.forms.specs.Laws.{Follow, LinesOf, TakenApart, behind, spaced, with_end}
+use Rattle.forms.specs.Laws.{Follow, LinesOf, TakenApart, spaced, with_end}
 use Rattle.forms.specs.Lines.{Line, begun_by, lines, next_byte, next_line}
 use Rattle.forms.specs.declared.faults.Place.{Place}
 use Rattle.forms.proofs.Itemized.{items_split}

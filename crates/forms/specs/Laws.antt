@@ -1,5 +1,5 @@
 -- Laws of lines and items: nothing of a text is lost or made up when it is taken apart.
-use Rattle.std.specs.Prelude.{◌≡◌, ℕ, ◌+◌, Bool, true, false, cond, not, ◌&&◌, ◌⊎◌, List, [], ◌∷◌, ◌++◌, length, ◌==◌}
+use Rattle.std.specs.Prelude.{◌≡◌, ℕ, ◌+◌, true, cond, not, ◌⊎◌, List, [], ◌∷◌, ◌++◌, length, ◌==◌}
 use Rattle.std.specs.List.{flat_map}
 use Rattle.forms.specs.Grammar.{all_of}
 use Rattle.forms.specs.Items.{items}

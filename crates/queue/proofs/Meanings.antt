@@ -1,10 +1,10 @@
 -- What becomes of a line's meaning as its slots change.
-use Rattle.std.proofs.Common.{◌≡◌, ℕ, zero, suc, ◌-◌, ◌<◌, ◌≤◌, true, List, [], ◌∷◌, length, is_some, Some, None, sym, refl, ap, ◌∙◌}
+use Rattle.std.proofs.Common.{◌≡◌, ℕ, zero, suc, ◌<◌, ◌≤◌, true, List, [], ◌∷◌, length, is_some, Some, None, sym, refl, ap, ◌∙◌}
 use Rattle.std.specs.List.{slice_get, remove}
 use Rattle.std.proofs.lemmas.Bool.{cond-true, cond-false, lt-leb, le-leb, not_from_true}
 use Rattle.model.specs.Queues.{Meaning, Changes, look, distinct, errand_within, put_refusal}
 use Rattle.model.specs.declared.errands.Errand.{Errand}
-use Rattle.list.specs.Held.{held, places, Becomes}
+use Rattle.list.specs.Held.{held, Becomes}
 use Rattle.list.specs.Order.{placed}
 use Rattle.list.specs.declared.ordered.OrderedList.{OrderedList}
 use Rattle.queue.specs.Lines.{errands, line_meaning, line_sound}

@@ -20,7 +20,7 @@ use Rattle.forms.specs.declared.sayings.QueueName.TheVariants.{First, Worth}
 use Rattle.forms.specs.declared.sayings.Said.{Said}
 use Rattle.forms.specs.declared.sayings.Said.TheVariants.{Sheet, Duty as AddDuty, Queue, At as AtClock, End, Remark}
 use Rattle.forms.proofs.Apart.{taken_apart}
-use Rattle.sheet.specs.Ats.{at_part, behind_first, call_items, calls_in, calls_of}
+use Rattle.sheet.specs.Ats.{at_part, behind_first, calls_in}
 use Rattle.sheet.specs.Laws.{CallsStand, Holds, SheetsHold}
 use Rattle.sheet.specs.Orders.{SoFar, at_line, line_judged, lines_judged, nothing_read, sheet_faults, table_faults, with_said}
 use Rattle.sheet.specs.Sheets.{Set, late, missing_line, of_lines, over, too_long, whole}

@@ -1,5 +1,5 @@
 -- Where a reader stands once it has handed out every line.
-use Rattle.std.proofs.Common.{◌≡◌, ℕ, ◌+◌, ◌≤◌, List, [], ◌∷◌, length, drop, None, Ok, Result, sym, refl, ap, ◌∙◌, arith, length-drop}
+use Rattle.std.proofs.Common.{◌≡◌, ℕ, ◌+◌, List, [], ◌∷◌, length, drop, None, Result, sym, refl, ap, ◌∙◌, arith, length-drop}
 use Rattle.forms.specs.Lines.{HandsOut, lines, lines_left}
 use Rattle.sheet.specs.Orders.{SoFar, lines_judged}
 use Rattle.sheet.specs.Sheets.{end_of, of_lines, whole}

@@ -1,5 +1,5 @@
 -- The first fault of two lists of faults, one behind the other.
-use Rattle.std.proofs.Common.{◌≡◌, ℕ, List, [], ◌∷◌, ◌++◌, Some, None, Ok, Err, Option, Result, refl, arith}
+use Rattle.std.proofs.Common.{◌≡◌, ℕ, List, [], ◌∷◌, ◌++◌, Some, None, Ok, Err, Option, refl, arith}
 use Rattle.forms.specs.Faults.{judged}
 use Rattle.forms.specs.declared.faults.Fault.{Fault}
 

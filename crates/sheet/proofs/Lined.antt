@@ -1,12 +1,12 @@
 -- A line that says something, at its place in the sheet: what each layer above the forms makes of it.
-use Rattle.std.proofs.Common.{◌≡◌, ℕ, Bool, true, false, List, [], ◌∷◌, ◌++◌, Some, None, Ok, Err, Option, Result, sym, refl, ap, ◌∙◌, arith}
+use Rattle.std.proofs.Common.{◌≡◌, ℕ, Bool, true, false, List, [], ◌∷◌, ◌++◌, Some, None, Ok, Err, Option, sym, refl, ap, ◌∙◌, arith}
 use Rattle.model.specs.Refusals.{told}
 use Rattle.model.specs.declared.refusals.Refusal.{Refusal}
 use Rattle.model.specs.declared.refusals.Refusal.TheVariants.{NoSuchRow, DutyLimits, TableFull, Unschedulable, TooSoon, RowIdle, ClockEnded, ErrandLimits, AlreadyWaiting, NoPlace, NotWaiting}
 use Rattle.forms.specs.Faults.{fault, judged, unless}
 use Rattle.sheet.specs.Told.{table_fault}
 use Rattle.forms.specs.Lines.{Line}
-use Rattle.sheet.specs.Orders.{SoFar, fault_16, fault_17, has_room, in_order, line_judged, order_judged, refused_at, said_judged, sheet_faults, table_faults, table_says, with_said}
+use Rattle.sheet.specs.Orders.{SoFar, fault_16, fault_17, has_room, in_order, line_judged, order_judged, refused_at, said_judged, sheet_faults, table_faults, with_said}
 use Rattle.forms.specs.Sayings.{form_judged, forms_faults, letters_faults, says}
 use Rattle.forms.specs.declared.faults.Fault.{Fault}
 use Rattle.forms.specs.declared.faults.Layer.TheVariants.{Sheet as SheetLayer}

@@ -1,5 +1,5 @@
 -- What a run of a sheet leaves waiting is what was accepted, and neither served nor withdrawn.
-use Rattle.std.proofs.Common.{◌≡◌, ℕ, ◌+◌, ◌≤◌, true, List, [], ◌∷◌, ◌++◌, length, Option, sym, refl, ap, ◌∙◌, subst, arith}
+use Rattle.std.proofs.Common.{◌≡◌, ℕ, ◌+◌, ◌≤◌, List, [], ◌∷◌, ◌++◌, length, Option, refl, ap, ◌∙◌, arith}
 use Rattle.dispatcher.specs.Scripts.{calls_of, trace_of}
 use Rattle.dispatcher.specs.declared.entries.Entry.{Entry}
 use Rattle.model.proofs.Totals.{totals_balance}
@@ -11,7 +11,7 @@ use Rattle.model.specs.declared.calls.Call.{Call}
 use Rattle.model.specs.declared.duties.Duty.{Duty}
 use Rattle.model.specs.declared.errands.Errand.{Errand}
 use Rattle.sheet.specs.Sheets.{Set}
-use Rattle.transcript.specs.Renderings.{duty_lines, left_over, rendered, run_lines}
+use Rattle.transcript.specs.Renderings.{duty_lines, left_over, run_lines}
 use Rattle.transcript.specs.Schedules.{script_of}
 use Rattle.transcript.specs.Transcripts.{Ran, Transcript, called}
 

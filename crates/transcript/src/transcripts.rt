@@ -38,10 +38,8 @@ fn fault_text(heap: Global, fault: Fault) -> Result<String, AllocError>
     ensures { IfOk result (λ out. string_bytes out ≡ fault_line fault) }
 {
     let mut out = String::new(heap);
-    match write_fault(&mut out, fault) {
-        Ok(()) => Ok(out),
-        Err(_) => Err(AllocError),
-    }
+    write_fault(&mut out, fault)?;
+    Ok(out)
 }
 
 // The transcript of the sheet that a text is.

@@ -1,4 +1,4 @@
-use Rattle.std.proofs.Common.{◌≡◌, rules}
+use Rattle.std.proofs.Common.{rules}
 use Rattle.forms.proofs.Cuts.{take_front}
 use Rattle.forms.proofs.shapes.is_remark.Goals as goal
 

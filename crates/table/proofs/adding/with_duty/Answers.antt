@@ -1,4 +1,4 @@
-use Rattle.std.proofs.Common.{◌≡◌, ◌+◌, List, take, set, ap, ◌∙◌, arith}
+use Rattle.std.proofs.Common.{◌+◌, List, take, set, ap, ◌∙◌, arith}
 use Rattle.model.proofs.Slots.{inserted_part, opened}
 use Rattle.model.specs.declared.duties.Duty.{Duty}
 use Rattle.table.proofs.adding.with_duty.Goals as goal

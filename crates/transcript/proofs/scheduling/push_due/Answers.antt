@@ -1,4 +1,4 @@
-use Rattle.std.proofs.Common.{◌≡◌, ◌<◌, ◌≤◌, List, ◌++◌, length, get_or, vec_items, sym, ap, ◌∙◌, arith}
+use Rattle.std.proofs.Common.{◌≡◌, ◌<◌, List, ◌++◌, length, get_or, vec_items, sym, ap, ◌∙◌, arith}
 use Rattle.dispatcher.specs.Scripts.{calls_of}
 use Rattle.model.specs.declared.calls.Call.{Call}
 use Rattle.sheet.specs.Ats.{calls_of as calls_at}

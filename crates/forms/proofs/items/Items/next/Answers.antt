@@ -1,5 +1,5 @@
 use Rattle.std.proofs.Common.{ap, ◌∙◌}
-use Rattle.forms.specs.Items.{items_left, items_of}
+use Rattle.forms.specs.Items.{items_of}
 use Rattle.forms.proofs.Itemized.{items_cut}
 use Rattle.forms.proofs.items.Items.next.Goals as goal
 

@@ -1,7 +1,7 @@
-use Rattle.std.proofs.Common.{◌≡◌, ◌+◌, ◌<◌, ◌≤◌, [], ◌∷◌, length, sym, refl, ap, ◌∙◌, arith, length-drop, length-take}
+use Rattle.std.proofs.Common.{◌≡◌, [], length, refl, ap, arith, length-drop, length-take}
 use Rattle.std.proofs.lemmas.List.{drop_all}
-use Rattle.forms.specs.Lines.{line_length, lines, lines_left}
-use Rattle.forms.proofs.Ends.{line_length_within, lines_from}
+use Rattle.forms.specs.Lines.{lines, lines_left}
+use Rattle.forms.proofs.Ends.{lines_from}
 use Rattle.forms.proofs.lines.Reader.next.Goals as goal
 
 pub returns-then-start-text : goal.returns-then-start-text

@@ -1,4 +1,4 @@
-use Rattle.std.proofs.Common.{◌≡◌, ℕ, ◌+◌, ◌*◌, ◌^◌, ◌≤◌, drop}
+use Rattle.std.proofs.Common.{◌≡◌, ◌+◌, ◌*◌, ◌^◌, ◌≤◌, drop}
 use Rattle.dispatcher.specs.Scripts.{trace_of}
 use Rattle.model.specs.Totals.{total_accepted, total_served, total_withdrawn}
 use Rattle.transcript.proofs.totals.Totals.of.Given as goal
