@@ -1,5 +1,7 @@
 // A workload driven for the benchmark in bench/, which compares its answers and its speed with an independent
 // implementation. Nothing but the benchmark uses it.
+#![tactic(auto)]
+
 use model::Duty;
 use table::Setting;
 use workload::Workload;

@@ -1,13 +1,10 @@
 // The end of the clock: a dispatcher is ticked up to the clock's last value, 4,294,967,295. There a tick is refused, whoever
 // waits, and the other calls go on.
+#![tactic(auto)]
+
 use dispatcher::Dispatcher;
-use model::Errand;
-use model::Refusal;
-use model::Who;
-use queue::FirstCome;
-use queue::FirstComeQueue;
-use queue::Queue;
-use queue::Slot;
+use model::{Errand, Refusal, Who};
+use queue::{FirstCome, Queue, Slot};
 use std::io;
 use table::Setting;
 
@@ -23,12 +20,12 @@ fn to_the_end<Q: Queue>(dispatcher: &mut Dispatcher<Q>) -> u32 {
 }
 
 // What a call answered, printed: a number, or the number of its refusal.
-fn told(rt: &LibcRuntime, word: &str, answer: Result<u32, Refusal>) -> io::Result<()> {
+fn told(rt: &HostRuntime, word: &str, answer: Result<u32, Refusal>) -> io::Result<()> {
     match answer {
-        Ok(value) => println!(rt, "{word} answered {value}"),
+        Ok(value) => println!(rt; "{word} answered {value}"),
         Err(why) => {
             let number = why.number();
-            println!(rt, "{word} refused {number}")
+            println!(rt; "{word} refused {number}")
         }
     }
 }
@@ -39,10 +36,10 @@ fn tick<Q: Queue>(dispatcher: &mut Dispatcher<Q>) -> Result<u32, Refusal> {
     Ok(slack)
 }
 
-fn drive<Q: Queue + Drop>(rt: &LibcRuntime, setting: Setting, queue: Q) -> io::Result<()> {
+fn drive<Q: Queue + Drop>(rt: &HostRuntime, setting: Setting, queue: Q) -> io::Result<()> {
     let mut dispatcher = Dispatcher::start(setting, queue);
     let accepted = to_the_end(&mut dispatcher);
-    println!(rt, "{accepted} ticks accepted")?;
+    println!(rt; "{accepted} ticks accepted")?;
     told(rt, "tick", tick(&mut dispatcher))?;
     let errand = Errand {
         number: 7,
@@ -50,14 +47,14 @@ fn drive<Q: Queue + Drop>(rt: &LibcRuntime, setting: Setting, queue: Q) -> io::R
         worth: 1,
     };
     let requested = dispatcher.request(errand).is_ok();
-    println!(rt, "request accepted: {requested}")?;
+    println!(rt; "request accepted: {requested}")?;
     told(rt, "tick", tick(&mut dispatcher))?;
     told(rt, "slack", Ok(dispatcher.slack()))?;
     told(rt, "withdraw", dispatcher.withdraw(7))?;
     told(rt, "tick", tick(&mut dispatcher))
 }
 
-fn main(rt: LibcRuntime) -> io::Result<()> {
+fn main(rt: HostRuntime) -> io::Result<()> {
     let mut slots = [Slot::free(); 1];
     drive(&rt, Setting::new(), FirstCome::new(&mut slots))
 }

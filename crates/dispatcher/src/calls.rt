@@ -1,27 +1,23 @@
 // The calls of a running dispatcher. Each answers and leaves what the machine's step says.
-ghost use mathlib.Core.Path.{_≡_};
-ghost use Rattle·model.specs.Histories.{Goes-on, by-call, by-put, by-take, by-tick};
-ghost use Rattle·model.specs.Machine.{Requested, Row-called, Step, Ticks, Withdraws, fresh, plain-answer, slack-of, tick-answer, waits};
-ghost use Rattle·model.specs.declared.rows.RowCall.the-variants.{Release, Done};
-ghost use Rattle·table.specs.Settings.{table-of};
-ghost use Rattle·dispatcher·specs.Views.{duties, view};
+ghost use Rattle.std.specs.Prelude.{◌≡◌};
+ghost use Rattle.model.specs.Histories.{GoesOn, by_call, by_put, by_take, by_tick};
+ghost use Rattle.model.specs.Machine.{Requested, RowCalled, Step, Ticks, Withdraws, fresh, plain_answer, slack_of, tick_answer, waits};
+ghost use Rattle.model.specs.declared.rows.RowCall.TheVariants.{Release, Done};
+ghost use Rattle.table.specs.Settings.{table_of};
+ghost use Rattle.dispatcher.specs.Views.{duties, view};
+
 use crate::dispatchers::Dispatcher;
-use model::Answer;
-use model::Call;
-use model::Errand;
-use model::Refusal;
-use model::Who;
+use model::{Answer, Call, Errand, Refusal, Who};
 use queue::Queue;
 use table::Setting;
-use workload::Turn;
-use workload::Workload;
+use workload::{Turn, Workload};
 
 impl<Q: Queue> Dispatcher<Q> {
     // Starts a setting over a queue, whatever the queue holds.
     pub fn start(setting: Setting, queue: Q) -> Dispatcher<Q>
-        ensures state { λ r. ⌜ view meaning r ≡ fresh (table-of setting) (meaning queue) ⌝ }
-        ensures table { λ r. ⌜ duties r ≡ table-of setting ⌝ }
-        ensures queue { λ r. ⌜ r .queue ≡ queue ⌝ }
+        ensures state { view Q.meaning result ≡ fresh (table_of setting) (Q.meaning queue) }
+        ensures table { duties result ≡ table_of setting }
+        ensures queue { result.queue ≡ queue }
     {
         Dispatcher {
             work: Workload::start(setting),
@@ -31,59 +27,59 @@ impl<Q: Queue> Dispatcher<Q> {
 
     // Releases a job of a row.
     pub fn release(&mut self, row: u32) -> Result<(), Refusal>
-        ensures step { λ r. ⌜ Row-called (duties (now (self .entry))) (view meaning (now (self .entry))) row Release r (view meaning (now (self .exit))) ⌝ }
-        ensures table { λ _. ⌜ duties (now (self .exit)) ≡ duties (now (self .entry)) ⌝ }
-        ensures queue { λ _. ⌜ now (self .exit) .queue ≡ now (self .entry) .queue ⌝ }
+        ensures step { RowCalled (duties self.old) (view Q.meaning self.old) row Release result (view Q.meaning self.new) }
+        ensures table { duties self.new ≡ duties self.old }
+        ensures queue { self.new.queue ≡ self.old.queue }
     {
         self.work.release(row)
     }
 
     // Ends the job of a row before it has had all its ticks.
     pub fn done(&mut self, row: u32) -> Result<(), Refusal>
-        ensures step { λ r. ⌜ Row-called (duties (now (self .entry))) (view meaning (now (self .entry))) row Done r (view meaning (now (self .exit))) ⌝ }
-        ensures table { λ _. ⌜ duties (now (self .exit)) ≡ duties (now (self .entry)) ⌝ }
-        ensures queue { λ _. ⌜ now (self .exit) .queue ≡ now (self .entry) .queue ⌝ }
+        ensures step { RowCalled (duties self.old) (view Q.meaning self.old) row Done result (view Q.meaning self.new) }
+        ensures table { duties self.new ≡ duties self.old }
+        ensures queue { self.new.queue ≡ self.old.queue }
     {
         self.work.done(row)
     }
 
     // Has an errand wait.
     pub fn request(&mut self, errand: Errand) -> Result<(), Refusal>
-        ensures step { λ r. ⌜ Requested (view meaning (now (self .entry))) errand r (view meaning (now (self .exit))) ⌝ }
-        ensures table { λ _. ⌜ duties (now (self .exit)) ≡ duties (now (self .entry)) ⌝ }
-        ensures history { λ r. ⌜ Goes-on arises (now (self .entry) .queue) (by-put errand r) (now (self .exit) .queue) ⌝ }
+        ensures step { Requested (view Q.meaning self.old) errand result (view Q.meaning self.new) }
+        ensures table { duties self.new ≡ duties self.old }
+        ensures history { GoesOn Q.arises self.old.queue (by_put errand result) self.new.queue }
     {
         self.queue.put(errand)
     }
 
     // Drops an errand, and answers the units that it had left.
     pub fn withdraw(&mut self, number: u32) -> Result<u32, Refusal>
-        ensures step { λ r. ⌜ Withdraws (view meaning (now (self .entry))) number r (view meaning (now (self .exit))) ⌝ }
-        ensures table { λ _. ⌜ duties (now (self .exit)) ≡ duties (now (self .entry)) ⌝ }
-        ensures history { λ r. ⌜ Goes-on arises (now (self .entry) .queue) (by-take number r) (now (self .exit) .queue) ⌝ }
+        ensures step { Withdraws (view Q.meaning self.old) number result (view Q.meaning self.new) }
+        ensures table { duties self.new ≡ duties self.old }
+        ensures history { GoesOn Q.arises self.old.queue (by_take number result) self.new.queue }
     {
         self.queue.take(number)
     }
 
     // The table's slack.
     pub fn slack(&self) -> u32
-        ensures { λ r. ⌜ r ≡ slack-of (duties (now (self .entry))) (view meaning (now (self .entry))) ⌝ }
+        ensures { result ≡ slack_of (duties self.now) (view Q.meaning self.now) }
     {
         self.work.slack()
     }
 
     // An errand waits.
     fn errand_waits(&self) -> bool
-        ensures { λ r. ⌜ r ≡ waits (meaning (now (self .entry) .queue)) ⌝ }
+        ensures { result ≡ waits (Q.meaning self.now.queue) }
     {
         self.queue.name().is_some()
     }
 
     // One tick: the slack before it, and who had it.
     pub fn tick(&mut self) -> Result<(u32, Who), Refusal>
-        ensures step { λ r. ⌜ Ticks (duties (now (self .entry))) (view meaning (now (self .entry))) r (view meaning (now (self .exit))) ⌝ }
-        ensures table { λ _. ⌜ duties (now (self .exit)) ≡ duties (now (self .entry)) ⌝ }
-        ensures history { λ r. ⌜ Goes-on arises (now (self .entry) .queue) (by-tick (tick-answer r)) (now (self .exit) .queue) ⌝ }
+        ensures step { Ticks (duties self.old) (view Q.meaning self.old) result (view Q.meaning self.new) }
+        ensures table { duties self.new ≡ duties self.old }
+        ensures history { GoesOn Q.arises self.old.queue (by_tick (tick_answer result)) self.new.queue }
     {
         let errand_waits = self.errand_waits();
         let (slack, turn) = self.work.tick(errand_waits)?;
@@ -97,9 +93,9 @@ impl<Q: Queue> Dispatcher<Q> {
 
     // Any of the six calls, with its answer.
     pub fn carry_out(&mut self, call: Call) -> Answer
-        ensures step { λ r. ⌜ Step (duties (now (self .entry))) (view meaning (now (self .entry))) call r (view meaning (now (self .exit))) ⌝ }
-        ensures table { λ _. ⌜ duties (now (self .exit)) ≡ duties (now (self .entry)) ⌝ }
-        ensures history { λ r. ⌜ Goes-on arises (now (self .entry) .queue) (by-call call r) (now (self .exit) .queue) ⌝ }
+        ensures step { Step (duties self.old) (view Q.meaning self.old) call result (view Q.meaning self.new) }
+        ensures table { duties self.new ≡ duties self.old }
+        ensures history { GoesOn Q.arises self.old.queue (by_call call result) self.new.queue }
     {
         match call {
             Call::Release(row) => plain(self.release(row)),
@@ -119,10 +115,10 @@ impl<Q: Queue> Dispatcher<Q> {
 }
 
 // The answer to a call that has nothing else to tell.
-fn plain(result: Result<(), Refusal>) -> Answer
-    ensures { λ r. ⌜ r ≡ plain-answer result ⌝ }
+fn plain(res: Result<(), Refusal>) -> Answer
+    ensures { result ≡ plain_answer res }
 {
-    match result {
+    match res {
         Ok(()) => Answer::Accepted,
         Err(why) => Answer::Refused(why),
     }

@@ -1,5 +1,4 @@
-use model::Answer;
-use model::Call;
+use model::{Answer, Call};
 
 // A call of a script, and beside it what it answered once the script has been run.
 #[derive(Clone, Copy)]

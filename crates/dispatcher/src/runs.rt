@@ -1,10 +1,11 @@
 // Whole runs, with the promise that holds of each.
-ghost use mathlib.Core.Path.{_≡_};
-ghost use Rattle·model.specs.Histories.{Chosen, History};
-ghost use Rattle·model.specs.Promise.{Promise};
-ghost use Rattle·table.specs.Settings.{table-of};
-ghost use Rattle·dispatcher·specs.Scripts.{calls-of, trace-of};
-ghost use Rattle·dispatcher·specs.Views.{duties, view};
+ghost use Rattle.std.specs.Prelude.{◌≡◌};
+ghost use Rattle.model.specs.Histories.{Chosen, History};
+ghost use Rattle.model.specs.Promise.{Promise};
+ghost use Rattle.table.specs.Settings.{table_of};
+ghost use Rattle.dispatcher.specs.Scripts.{calls_of, trace_of};
+ghost use Rattle.dispatcher.specs.Views.{duties, view};
+
 use crate::dispatchers::Dispatcher;
 use crate::entries::Entry;
 use queue::Queue;
@@ -15,10 +16,10 @@ use table::Setting;
 // machine's, every deadline is met, each spare tick goes to an errand exactly when that can hurt nobody, and the
 // accounts of every errand balance. Which errand has such a tick goes by the queue's rule over all that happened to it.
 pub fn run<Q: Queue>(setting: Setting, queue: Q, script: &mut [Entry]) -> Dispatcher<Q>
-    ensures promise { λ r. ⌜ Promise (table-of setting) (meaning queue) (trace-of (now (script .exit))) (view meaning r) ⌝ }
-    ensures calls { λ _. ⌜ calls-of (now (script .exit)) ≡ calls-of (now (script .entry)) ⌝ }
-    ensures table { λ r. ⌜ duties r ≡ table-of setting ⌝ }
-    ensures chosen { λ _. ⌜ ((past : History) → arises past queue → Chosen rule past (trace-of (now (script .exit)))) ⌝ }
+    ensures promise { Promise (table_of setting) (Q.meaning queue) (trace_of script.new) (view Q.meaning result) }
+    ensures calls { calls_of script.new ≡ calls_of script.old }
+    ensures table { duties result ≡ table_of setting }
+    ensures chosen { (past : History) → Q.arises past queue → Chosen Q.rule past (trace_of script.new) }
 {
     let mut dispatcher = Dispatcher::start(setting, queue);
     for i in 0..script.len() {

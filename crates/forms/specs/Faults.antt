@@ -1,12 +1,12 @@
 -- The number and the values of each fault of a form.
-use Rattle·text.specs.Faults.{fault, letters-told}
-use Rattle·text.specs.declared.faults.Fault.{Fault}
-use Rattle·text.specs.declared.faults.Layer.the-variants.{Forms}
-use Rattle·forms·specs.declared.faults.FormsFault.{FormsFault}
-use Rattle·forms·specs.declared.faults.FormsFault.the-variants.{Letters as Of-letters, NotAForm, WrongItems, TooLarge}
+use Rattle.text.specs.Faults.{fault, letters_told}
+use Rattle.text.specs.declared.faults.Fault.{Fault}
+use Rattle.text.specs.declared.faults.Layer.TheVariants.{Forms}
+use Rattle.forms.specs.declared.faults.FormsFault.{FormsFault}
+use Rattle.forms.specs.declared.faults.FormsFault.TheVariants.{Letters as OfLetters, NotAForm, WrongItems, TooLarge}
 
-abbrev pub forms-told : FormsFault → Fault
-forms-told (Of-letters f) = letters-told f
-forms-told (NotAForm place) = fault 13 Forms place
-forms-told (WrongItems place) = fault 14 Forms place
-forms-told (TooLarge place) = fault 15 Forms place
+abbrev pub forms_told : FormsFault → Fault
+forms_told (OfLetters f) = letters_told f
+forms_told (NotAForm place) = fault 13 Forms place
+forms_told (WrongItems place) = fault 14 Forms place
+forms_told (TooLarge place) = fault 15 Forms place

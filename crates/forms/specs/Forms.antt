@@ -1,23 +1,18 @@
 -- Which lines are forms. A form is an opening bracket, a word, items with one space before each, and a closing
 -- bracket; an item is a number, a word or a form.
-use Prim.Native.Nat.{ℕ, _+_, _-_}
-use mathlib.Core.Bool.{Bool, true, false, cond, _&&_, _||_}
-use mathlib.Core.List.{List, [], _∷_}
-use lib.Chars.{codes}
-use lib.Dec.{leb, ltb, eqb}
-use lib.ListN.{take}
-use Rattle·std.specs.shelf.Text.{sameBytes}
-use Rattle·text.specs.Bytes.{closing, opening, space}
+use Rattle.std.specs.Prelude.{ℕ, ◌+◌, ◌-◌, Bool, true, false, cond, ◌&&◌, ◌||◌, List, [], ◌∷◌, take, codes, ◌==◌, nat_le, nat_lt}
+use Rattle.std.specs.Str.{bytes_eq}
+use Rattle.text.specs.Bytes.{closing, opening, space}
 
 abbrev pub letter : ℕ → Bool
-letter b = leb 97 b && leb b 122
+letter b = nat_le 97 b && nat_le b 122
 
 abbrev pub digit : ℕ → Bool
-digit b = leb 48 b && leb b 57
+digit b = nat_le 48 b && nat_le b 57
 
 -- What may stand after a byte of a form.
-abbrev pub may-follow : ℕ → ℕ → Bool
-may-follow a b =
+abbrev pub may_follow : ℕ → ℕ → Bool
+may_follow a b =
     cond (opening a) (letter b)
     (cond (letter a) (letter b || space b || closing b)
     (cond (digit a) (digit b || space b || closing b)
@@ -27,7 +22,7 @@ may-follow a b =
 -- Each byte may stand after the one before it, the first one after a.
 abbrev pub spelled : ℕ → List ℕ → Bool
 spelled a [] = true
-spelled a (b ∷ bs) = may-follow a b && spelled b bs
+spelled a (b ∷ bs) = may_follow a b && spelled b bs
 
 abbrev pub empty : List ℕ → Bool
 empty [] = true
@@ -37,8 +32,8 @@ empty (b ∷ bs) = false
 abbrev pub closed : ℕ → List ℕ → Bool
 closed depth [] = false
 closed depth (b ∷ bs) =
-    cond (opening b) (ltb depth 16 && closed (depth + 1) bs)
-    (cond (closing b) (cond (eqb depth 1) (empty bs) (closed (depth - 1) bs))
+    cond (opening b) (nat_lt depth 16 && closed (depth + 1) bs)
+    (cond (closing b) (cond (depth == 1) (empty bs) (closed (depth - 1) bs))
     (closed depth bs))
 
 -- The first byte is a bracket, which the last byte closes; brackets pair up, at most 16 deep.
@@ -47,14 +42,14 @@ bracketed [] = false
 bracketed (b ∷ bs) = opening b && closed 1 bs
 
 -- Each byte may stand after the one before it.
-abbrev pub spelled-out : List ℕ → Bool
-spelled-out [] = true
-spelled-out (b ∷ bs) = spelled b bs
+abbrev pub spelled_out : List ℕ → Bool
+spelled_out [] = true
+spelled_out (b ∷ bs) = spelled b bs
 
 -- A line that begins as a remark; its text is free.
-abbrev pub is-remark : List ℕ → Bool
-is-remark bs = sameBytes (take 8 bs) (codes "(remark ") || sameBytes (take 8 bs) (codes "(remark)")
+abbrev pub is_remark : List ℕ → Bool
+is_remark bs = bytes_eq (take 8 bs) (codes "(remark ") || bytes_eq (take 8 bs) (codes "(remark)")
 
 -- A form, or a remark.
-abbrev pub is-form : List ℕ → Bool
-is-form bs = bracketed bs && (is-remark bs || spelled-out bs)
+abbrev pub is_form : List ℕ → Bool
+is_form bs = bracketed bs && (is_remark bs || spelled_out bs)

@@ -1,12 +1,8 @@
 -- What a form is, as a grammar: an opening bracket, a word, items with one space before each, and a closing bracket; an
 -- item is a number, a word or a form. The law says that a line's bytes and brackets tell exactly this.
-use Prim.Native.Nat.{ℕ, _<_}
-use mathlib.Core.Path.{_≡_}
-use mathlib.Core.Bool.{true, _&&_}
-use mathlib.Core.List.{List, [], _∷_, _++_}
-use Rattle·std.specs.Orderings.{Decides}
-use Rattle·text.specs.Bytes.{all-of}
-use Rattle·forms·specs.Forms.{bracketed, digit, letter, spelled-out}
+use Rattle.std.specs.Prelude.{◌≡◌, ℕ, ◌<◌, true, ◌&&◌, List, [], ◌∷◌, ◌++◌, Decides}
+use Rattle.text.specs.Bytes.{all_of}
+use Rattle.forms.specs.Forms.{bracketed, digit, letter, spelled_out}
 
 pub data Kind : Type 0 where
   form : Kind
@@ -15,15 +11,15 @@ pub data Kind : Type 0 where
 
 -- The bytes are a form, an item, or any number of items with a space before each, nested at most so deep.
 pub data Reads : Kind → ℕ → List ℕ → Type 0 where
-  bracket : {n m : ℕ} (w : ℕ) (ws rest : List ℕ) → n < m → letter w ≡ true → all-of letter ws ≡ true → Reads items n rest
+  bracket : {n m : ℕ} (w : ℕ) (ws rest : List ℕ) → n < m → letter w ≡ true → all_of letter ws ≡ true → Reads items n rest
       → Reads form m (40 ∷ (w ∷ (ws ++ (rest ++ (41 ∷ [])))))
-  word : {m : ℕ} (w : ℕ) (ws : List ℕ) → letter w ≡ true → all-of letter ws ≡ true → Reads item m (w ∷ ws)
-  number : {m : ℕ} (d : ℕ) (ds : List ℕ) → digit d ≡ true → all-of digit ds ≡ true → Reads item m (d ∷ ds)
+  word : {m : ℕ} (w : ℕ) (ws : List ℕ) → letter w ≡ true → all_of letter ws ≡ true → Reads item m (w ∷ ws)
+  number : {m : ℕ} (d : ℕ) (ds : List ℕ) → digit d ≡ true → all_of digit ds ≡ true → Reads item m (d ∷ ds)
   nested : {m : ℕ} {bs : List ℕ} → Reads form m bs → Reads item m bs
   none : {m : ℕ} → Reads items m []
   more : {m : ℕ} (i rest : List ℕ) → Reads item m i → Reads items m rest → Reads items m (32 ∷ (i ++ rest))
 
 -- A line's brackets pair up and its bytes may stand one after the other exactly if it is a form that nests at most 16
 -- deep.
-abbrev pub Forms-by-grammar : Type 0
-Forms-by-grammar = (bs : List ℕ) → Decides (bracketed bs && spelled-out bs) (Reads form 16 bs)
+abbrev pub FormsByGrammar : Type 0
+FormsByGrammar = (bs : List ℕ) → Decides (bracketed bs && spelled_out bs) (Reads form 16 bs)

@@ -1,18 +1,17 @@
 // The calls of an at-line.
-ghost use mathlib.Core.Path.{_≡_};
-ghost use Rattle·text.specs.Items.{items-left};
-ghost use Rattle·text.specs.Parts.{bytes-of};
-ghost use Rattle·forms·specs.Sayings.{all-calls, call, some-calls, worded-call};
+ghost use Rattle.std.specs.Prelude.{◌≡◌};
+ghost use Rattle.text.specs.Items.{items_left};
+ghost use Rattle.text.specs.Parts.{bytes_of};
+ghost use Rattle.forms.specs.Sayings.{all_calls, call, some_calls, worded_call};
+
 use crate::numbers::numbers;
 use crate::shapes::same;
-use model::Call;
-use model::Errand;
-use text::Items;
-use text::Part;
+use model::{Call, Errand};
+use text::{Items, Part};
 
 // What each word of a call wants.
 fn worded_call(word: &[u8], items: Items) -> Option<Call>
-    ensures { λ r. ⌜ r ≡ worded-call (now (word .entry)) (items-left (items .entry)) ⌝ }
+    ensures { result ≡ worded_call word.now (items_left items.entry) }
 {
     if same(word, b"release") {
         let [row] = numbers::<1>(items)?;
@@ -37,7 +36,7 @@ fn worded_call(word: &[u8], items: Items) -> Option<Call>
 
 // The call that an item is, if it is one.
 pub fn call(item: Part) -> Option<Call>
-    ensures { λ r. ⌜ r ≡ call (bytes-of (item .entry)) ⌝ }
+    ensures { result ≡ call (bytes_of item.entry) }
 {
     let bytes = item.bytes();
     if bytes.is_empty() || bytes[0] != b'(' {
@@ -49,7 +48,7 @@ pub fn call(item: Part) -> Option<Call>
 }
 
 fn all_calls(mut items: Items) -> bool
-    ensures { λ r. ⌜ r ≡ all-calls (items-left (items .entry)) ⌝ }
+    ensures { result ≡ all_calls (items_left items.entry) }
 {
     while let Some(item) = items.next() {
         if call(item).is_none() {
@@ -61,7 +60,7 @@ fn all_calls(mut items: Items) -> bool
 
 // One call or more.
 pub(crate) fn some_calls(mut items: Items) -> bool
-    ensures { λ r. ⌜ r ≡ some-calls (items-left (items .entry)) ⌝ }
+    ensures { result ≡ some_calls (items_left items.entry) }
 {
     let Some(first) = items.next() else {
         return false;

@@ -1,6 +1,5 @@
 // Faults of a form: its own, and those of its letters, which are passed on.
-use text::LettersFault;
-use text::Place;
+use text::{LettersFault, Place};
 
 #[derive(Clone, Copy)]
 pub enum FormsFault {

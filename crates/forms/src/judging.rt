@@ -1,24 +1,22 @@
 // The layer of forms: what a line says, or the first fault of its letters or of its form.
-ghost use mathlib.Core.Path.{_≡_};
-ghost use Rattle·forms·specs.Faults.{forms-told};
-ghost use Rattle·text.specs.Faults.{reported};
-ghost use Rattle·text.specs.Lines.{line-of};
-ghost use Rattle·forms·specs.Sayings.{end-fits, form-judged};
+ghost use Rattle.std.specs.Prelude.{◌≡◌};
+ghost use Rattle.forms.specs.Faults.{forms_told};
+ghost use Rattle.text.specs.Faults.{reported};
+ghost use Rattle.text.specs.Lines.{line_of};
+ghost use Rattle.forms.specs.Sayings.{end_fits, form_judged};
+
 use crate::faults::FormsFault;
 use crate::numbers::numbers_fit;
-use crate::passing::FormsFromLetters;
 use crate::sayings::Said;
-use crate::shapes::is_form;
-use crate::shapes::is_remark;
+use crate::shapes::{is_form, is_remark};
 use crate::wording::said;
-use text::Line;
-use text::letters;
+use text::{Line, letters};
 
 // The most ticks that a run may have.
 const MOST_TICKS: u32 = 10000;
 
 fn end_fits(said: Said) -> bool
-    ensures { λ r. ⌜ r ≡ end-fits said ⌝ }
+    ensures { result ≡ end_fits said }
 {
     match said {
         Said::End(ticks) => ticks <= MOST_TICKS,
@@ -28,7 +26,7 @@ fn end_fits(said: Said) -> bool
 
 // What a line says, or the first fault of its letters or its form.
 pub fn form_said(line: Line) -> Result<Said, FormsFault>
-    ensures { λ r. ⌜ reported forms-told r ≡ form-judged (line-of (line .entry)) ⌝ }
+    ensures { reported forms_told result ≡ form_judged (line_of line.entry) }
 {
     let part = line.part;
     letters(part)?;

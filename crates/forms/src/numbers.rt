@@ -1,7 +1,8 @@
 // The numbers of a form.
-ghost use mathlib.Core.Path.{_≡_};
-ghost use Rattle·forms·specs.Numbers.{Numbers-by-value, is-number, numbers, numbers-fit, value};
-ghost use Rattle·text.specs.Items.{items-left};
+ghost use Rattle.std.specs.Prelude.{◌≡◌};
+ghost use Rattle.forms.specs.Numbers.{NumbersByValue, is_number, numbers, numbers_fit, value};
+ghost use Rattle.text.specs.Items.{items_left};
+
 use crate::shapes::digit;
 use text::Items;
 
@@ -13,14 +14,14 @@ const MOST_DIGITS: usize = 10;
 
 // In a form an item that begins with a digit is a number.
 pub(crate) fn is_number(item: &[u8]) -> bool
-    ensures { λ r. ⌜ r ≡ is-number (now (item .entry)) ⌝ }
+    ensures { result ≡ is_number item.now }
 {
     !item.is_empty() && digit(item[0])
 }
 
 // The value of digits, or the largest number where it is past that.
 pub(crate) fn value(item: &[u8]) -> u32
-    ensures { λ r. ⌜ r ≡ value (now (item .entry)) ⌝ }
+    ensures { result ≡ value item.now }
 {
     let mut value: u64 = 0;
     for b in item {
@@ -31,7 +32,7 @@ pub(crate) fn value(item: &[u8]) -> u32
 
 // Every run of digits is a number of at most ten digits that is not past the largest.
 pub(crate) fn numbers_fit(form: &[u8]) -> bool
-    ensures { λ r. ⌜ r ≡ numbers-fit (now (form .entry)) ⌝ }
+    ensures { result ≡ numbers_fit form.now }
 {
     let mut count: usize = 0;
     let mut value: u64 = 0;
@@ -52,7 +53,7 @@ pub(crate) fn numbers_fit(form: &[u8]) -> bool
 
 // The values of items that are exactly N numbers.
 pub(crate) fn numbers<const N: usize>(mut items: Items) -> Option<[u32; N]>
-    ensures { λ r. ⌜ r ≡ numbers N (items-left (items .entry)) ⌝ }
+    ensures { result ≡ numbers N (items_left items.entry) }
 {
     let mut values = [0; N];
     for k in 0..N {
@@ -70,7 +71,7 @@ pub(crate) fn numbers<const N: usize>(mut items: Items) -> Option<[u32; N]>
 
 // Numbers count by value: one that is written in decimal digits is read as itself, with or without zeros in front.
 pub fn numbers_by_value() -> u8
-    ensures { λ _. ⌜ Numbers-by-value ⌝ }
+    ensures { NumbersByValue }
 {
     0
 }

@@ -1,14 +1,13 @@
 // Faults passed on from layer to layer; each keeps its number, line, byte and layer.
-ghost use mathlib.Core.Path.{_≡_};
-ghost use Rattle·forms·specs.Faults.{forms-told};
-ghost use Rattle·text.specs.Faults.{letters-told};
-use crate::faults::FormsFault;
-use text::Fault;
-use text::Layer;
-use text::LettersFault;
+ghost use Rattle.std.specs.Prelude.{◌≡◌};
+ghost use Rattle.forms.specs.Faults.{forms_told};
+ghost use Rattle.text.specs.Faults.{letters_told};
 
-pub impl From<LettersFault> for FormsFault as FormsFromLetters {
-    ghost converts = { λ e f. forms-told f ≡ letters-told e };
+use crate::faults::FormsFault;
+use text::{Fault, Layer, LettersFault};
+
+impl From<LettersFault> for FormsFault {
+    ghost from_gives = { λ e f. forms_told f ≡ letters_told e };
 
     fn from(e: LettersFault) -> FormsFault {
         FormsFault::Letters(e)
@@ -18,7 +17,7 @@ pub impl From<LettersFault> for FormsFault as FormsFromLetters {
 impl FormsFault {
     // The fault as it is reported.
     pub fn report(self) -> Fault
-        ensures { λ r. ⌜ r ≡ forms-told self ⌝ }
+        ensures { result ≡ forms_told self }
     {
         match self {
             FormsFault::Letters(LettersFault(place)) => Fault::new(12, Layer::Letters, place),

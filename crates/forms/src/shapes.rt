@@ -1,34 +1,34 @@
 // Which lines are forms: brackets that pair up, and bytes that may stand one after the other.
-ghost use mathlib.Core.Path.{_≡_};
-ghost use Rattle·std.specs.shelf.Text.{sameBytes};
-ghost use Rattle·forms·specs.Grammar.{Forms-by-grammar};
-ghost use Rattle·forms·specs.Forms.{bracketed, digit, is-form, is-remark, letter, may-follow, spelled-out};
+ghost use Rattle.std.specs.Prelude.{◌≡◌};
+ghost use Rattle.std.specs.Str.{bytes_eq};
+ghost use Rattle.forms.specs.Grammar.{FormsByGrammar};
+ghost use Rattle.forms.specs.Forms.{bracketed, digit, is_form, is_remark, letter, may_follow, spelled_out};
 
 // The deepest that brackets may nest.
 const DEEPEST: usize = 16;
 
 // Two byte strings are the same.
 pub(crate) fn same(a: &[u8], b: &[u8]) -> bool
-    ensures { λ r. ⌜ r ≡ sameBytes (now (a .entry)) (now (b .entry)) ⌝ }
+    ensures { result ≡ bytes_eq a.now b.now }
 {
     a == b
 }
 
 fn letter(b: u8) -> bool
-    ensures { λ r. ⌜ r ≡ letter b ⌝ }
+    ensures { result ≡ letter b }
 {
     97 <= b && b <= 122
 }
 
 pub(crate) fn digit(b: u8) -> bool
-    ensures { λ r. ⌜ r ≡ digit b ⌝ }
+    ensures { result ≡ digit b }
 {
     48 <= b && b <= 57
 }
 
 // What may stand after a byte of a form.
 fn may_follow(a: u8, b: u8) -> bool
-    ensures { λ r. ⌜ r ≡ may-follow a b ⌝ }
+    ensures { result ≡ may_follow a b }
 {
     if a == b'(' {
         letter(b)
@@ -47,7 +47,7 @@ fn may_follow(a: u8, b: u8) -> bool
 
 // Each byte may stand after the one before it.
 fn spelled_out(part: &[u8]) -> bool
-    ensures { λ r. ⌜ r ≡ spelled-out (now (part .entry)) ⌝ }
+    ensures { result ≡ spelled_out part.now }
 {
     for i in 1..part.len() {
         if !may_follow(part[i - 1], part[i]) {
@@ -59,7 +59,7 @@ fn spelled_out(part: &[u8]) -> bool
 
 // The first byte is a bracket, which the last byte closes; brackets pair up, and do not nest too deep.
 fn bracketed(part: &[u8]) -> bool
-    ensures { λ r. ⌜ r ≡ bracketed (now (part .entry)) ⌝ }
+    ensures { result ≡ bracketed part.now }
 {
     if part.is_empty() || part[0] != b'(' {
         return false;
@@ -83,7 +83,7 @@ fn bracketed(part: &[u8]) -> bool
 
 // The line begins as a remark.
 pub(crate) fn is_remark(part: &[u8]) -> bool
-    ensures { λ r. ⌜ r ≡ is-remark (now (part .entry)) ⌝ }
+    ensures { result ≡ is_remark part.now }
 {
     let front = &part[0..part.len().min(8)];
     same(front, b"(remark ") || same(front, b"(remark)")
@@ -92,14 +92,14 @@ pub(crate) fn is_remark(part: &[u8]) -> bool
 // A line whose brackets pair up and whose bytes may stand one after the other is a form, and no other line is: the law
 // that the definition of a form rests on.
 pub fn forms_by_grammar() -> u8
-    ensures { λ _. ⌜ Forms-by-grammar ⌝ }
+    ensures { FormsByGrammar }
 {
     0
 }
 
 // The line is a form or a remark.
 pub(crate) fn is_form(part: &[u8]) -> bool
-    ensures { λ r. ⌜ r ≡ is-form (now (part .entry)) ⌝ }
+    ensures { result ≡ is_form part.now }
 {
     bracketed(part) && (is_remark(part) || spelled_out(part))
 }

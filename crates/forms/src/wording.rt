@@ -1,24 +1,20 @@
 // What a line says: its word decides which items it wants.
-ghost use mathlib.Core.Path.{_≡_};
-ghost use Rattle·std.specs.Options.{mapped};
-ghost use Rattle·forms·specs.Numbers.{numbers};
-ghost use Rattle·text.specs.Items.{items-left};
-ghost use Rattle·text.specs.Parts.{bytes-of};
-ghost use Rattle·forms·specs.Sayings.{at-said, duty-said, end-said, queue-said, said, sheet-of-numbers, worded};
+ghost use Rattle.std.specs.Prelude.{◌≡◌};
+ghost use Rattle.std.specs.Option.{option_map};
+ghost use Rattle.forms.specs.Numbers.{numbers};
+ghost use Rattle.text.specs.Items.{items_left};
+ghost use Rattle.text.specs.Parts.{bytes_of};
+ghost use Rattle.forms.specs.Sayings.{at_said, duty_said, end_said, queue_said, said, sheet_of_numbers, worded};
+
 use crate::calls::some_calls;
-use crate::numbers::is_number;
-use crate::numbers::numbers;
-use crate::numbers::value;
-use crate::sayings::QueueName;
-use crate::sayings::Said;
-use crate::shapes::is_remark;
-use crate::shapes::same;
+use crate::numbers::{is_number, numbers, value};
+use crate::sayings::{QueueName, Said};
+use crate::shapes::{is_remark, same};
 use model::Duty;
-use text::Items;
-use text::Part;
+use text::{Items, Part};
 
 fn sheet_said(items: Items) -> Option<Said>
-    ensures { λ r. ⌜ r ≡ sheet-of-numbers (numbers 1 (items-left (items .entry))) ⌝ }
+    ensures { result ≡ sheet_of_numbers (numbers 1 (items_left items.entry)) }
 {
     let [version] = numbers::<1>(items)?;
     if version == 1 {
@@ -29,7 +25,7 @@ fn sheet_said(items: Items) -> Option<Said>
 }
 
 fn duty_said(items: Items) -> Option<Said>
-    ensures { λ r. ⌜ r ≡ mapped duty-said (numbers 4 (items-left (items .entry))) ⌝ }
+    ensures { result ≡ option_map duty_said (numbers 4 (items_left items.entry)) }
 {
     let [place, cost, deadline, separation] = numbers::<4>(items)?;
     Some(Said::Duty(
@@ -43,7 +39,7 @@ fn duty_said(items: Items) -> Option<Said>
 }
 
 fn queue_said(mut items: Items) -> Option<Said>
-    ensures { λ r. ⌜ r ≡ queue-said (items-left (items .entry)) ⌝ }
+    ensures { result ≡ queue_said (items_left items.entry) }
 {
     let name = items.next()?.bytes();
     let None = items.next() else {
@@ -59,7 +55,7 @@ fn queue_said(mut items: Items) -> Option<Said>
 }
 
 fn at_said(mut items: Items) -> Option<Said>
-    ensures { λ r. ⌜ r ≡ at-said (items-left (items .entry)) ⌝ }
+    ensures { result ≡ at_said (items_left items.entry) }
 {
     let clock = items.next()?.bytes();
     if is_number(clock) && some_calls(items) {
@@ -70,7 +66,7 @@ fn at_said(mut items: Items) -> Option<Said>
 }
 
 fn end_said(items: Items) -> Option<Said>
-    ensures { λ r. ⌜ r ≡ mapped end-said (numbers 1 (items-left (items .entry))) ⌝ }
+    ensures { result ≡ option_map end_said (numbers 1 (items_left items.entry)) }
 {
     let [ticks] = numbers::<1>(items)?;
     Some(Said::End(ticks))
@@ -78,7 +74,7 @@ fn end_said(items: Items) -> Option<Said>
 
 // What each word of a line wants.
 fn worded(word: &[u8], items: Items) -> Option<Said>
-    ensures { λ r. ⌜ r ≡ worded (now (word .entry)) (items-left (items .entry)) ⌝ }
+    ensures { result ≡ worded word.now (items_left items.entry) }
 {
     if same(word, b"sheet") {
         sheet_said(items)
@@ -97,7 +93,7 @@ fn worded(word: &[u8], items: Items) -> Option<Said>
 
 // What a line that is a form says, if its items are what its word wants.
 pub(crate) fn said(part: Part) -> Option<Said>
-    ensures { λ r. ⌜ r ≡ said (bytes-of (part .entry)) ⌝ }
+    ensures { result ≡ said (bytes_of part.entry) }
 {
     if is_remark(part.bytes()) {
         return Some(Said::Remark);

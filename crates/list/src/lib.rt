@@ -1,4 +1,6 @@
 // One ordered list, for every kind of entry that has a rank.
+#![tactic(auto)]
+
 mod ordered;
 mod ranked;
 mod shifts;

@@ -1,6 +1,5 @@
-ghost use mathlib.Core.Path.{_≡_};
-ghost use mathlib.Core.Bool.{Bool};
-ghost use Rattle·list·specs.Order.{same-rank, Strict, Chain};
+ghost use Rattle.std.specs.Prelude.{◌≡◌, Bool};
+ghost use Rattle.list.specs.Order.{same_rank, Strict, Chain};
 
 // Entries with a total order of their ranks. Two entries of which neither is before the other have the same rank.
 pub trait Ranked {
@@ -13,12 +12,12 @@ pub trait Ranked {
     ghost chain: { Chain before };
 
     fn is_before(&self, other: &Self) -> bool
-        ensures { λ r. ⌜ r ≡ before (now (self .entry)) (now (other .entry)) ⌝ };
+        ensures { result ≡ before self.now other.now };
 }
 
 // Neither entry is before the other.
 pub fn same_rank<E: Ranked>(x: &E, y: &E) -> bool
-    ensures { λ r. ⌜ r ≡ same-rank before (now (x .entry)) (now (y .entry)) ⌝ }
+    ensures { result ≡ same_rank E.before x.now y.now }
 {
     !x.is_before(y) && !y.is_before(x)
 }

@@ -1,7 +1,9 @@
 // The ordered list on calls that are due at a clock: those of one clock stay as they came.
-ghost use Rattle·list.specs.Order.{by-number, by-number-strict, by-number-chain};
-use list::OrderedList;
-use list::Ranked;
+#![tactic(auto)]
+
+ghost use Rattle.list.specs.Order.{by_number, by_number_strict, by_number_chain};
+
+use list::{OrderedList, Ranked};
 use std::io;
 
 // A call, as a part of a text, and its clock.
@@ -11,12 +13,12 @@ struct Due<'t> {
     call: &'t str,
 }
 
-impl<'t> Ranked for Due<'t> as ByClock {
-    ghost before = { by-number (λ due. due .clock) };
+impl<'t> Ranked for Due<'t> {
+    ghost before = { by_number (λ due. due.clock) };
 
-    ghost strict = { by-number-strict (λ due. due .clock) };
+    ghost strict = { by_number_strict (λ due. due.clock) };
 
-    ghost chain = { by-number-chain (λ due. due .clock) };
+    ghost chain = { by_number_chain (λ due. due.clock) };
 
     fn is_before(&self, other: &Due<'t>) -> bool {
         self.clock < other.clock
@@ -25,34 +27,34 @@ impl<'t> Ranked for Due<'t> as ByClock {
 
 // Inserts the calls one by one, and prints the number of what refused each, 0 where nothing did.
 fn insert_all<'t>(
-    rt: &LibcRuntime,
+    rt: &HostRuntime,
     list: &mut OrderedList<'_, Due<'t>>,
     dues: &[Due<'t>],
 ) -> io::Result<()> {
-    print!(rt, "insert")?;
+    print!(rt; "insert")?;
     for due in dues {
         let number = match list.insert(*due) {
             Ok(()) => 0,
             Err(why) => why.number(),
         };
-        print!(rt, " {number}")?;
+        print!(rt; " {number}")?;
     }
-    println!(rt, "")
+    println!(rt; "")
 }
 
-fn show(rt: &LibcRuntime, list: &OrderedList<'_, Due<'_>>) -> io::Result<()> {
+fn show(rt: &HostRuntime, list: &OrderedList<'_, Due<'_>>) -> io::Result<()> {
     let len = list.len();
     let capacity = list.capacity();
-    print!(rt, "{len} of {capacity}:")?;
+    print!(rt; "{len} of {capacity}:")?;
     for due in list.entries() {
         let clock = due.clock;
         let call = due.call;
-        print!(rt, " {clock} {call}")?;
+        print!(rt; " {clock} {call}")?;
     }
-    println!(rt, "")
+    println!(rt; "")
 }
 
-fn main(rt: LibcRuntime) -> io::Result<()> {
+fn main(rt: HostRuntime) -> io::Result<()> {
     let free = Due { clock: 0, call: "" };
     let mut slots = [free; 4];
     let mut list = OrderedList::new(&mut slots);

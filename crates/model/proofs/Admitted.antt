@@ -1,84 +1,76 @@
 -- What an admitted table gives: the limits of each duty, and for each row a time within its deadline that suffices
 -- for it and the rows above it.
-use Prim.Native.Nat.{ℕ, zero, suc, _≤_, _<_}
-use mathlib.Core.Path.{_≡_, ap}
-use mathlib.Core.Bool.{true, not, _&&_}
-use mathlib.Core.List.{List, [], _∷_}
-use native.Mathlib.Omega.{arith}
-use lib.Dec.{leb}
-use lib.ListN.{length, take}
-use Rattle·std.specs.Options.{isSome}
-use Rattle·std.specs.declared.option.Option.the-variants.{None}
-use Rattle·std.proofs.shelf.Tests.{and-from, and-parts, le-leb, leb-true, not-false, not-true}
-use Rattle·std.proofs.shelf.Ways.{tells}
-use Rattle·model·specs.Table.{busy, within-limits, all-within, suffices, response, late, first-late, admitted, duty-at}
-use Rattle·model·specs.declared.duties.Duty.{Duty}
-use Rattle·model·proofs.Found.{none-is, search-finds}
-use Rattle·model·proofs.Searches.{none-passes}
+use Rattle.std.proofs.Common.{◌≡◌, ℕ, zero, suc, ◌<◌, ◌≤◌, true, not, ◌&&◌, leb, List, [], ◌∷◌, length, take, is_some, None, ap, arith}
+use Rattle.std.proofs.lemmas.Bool.{and_from, and_parts, le-leb, leb-true, not-false, not-true}
+use Rattle.std.proofs.lemmas.Bool.Decides.{nat_tests}
+use Rattle.model.specs.Table.{busy, within_limits, all_within, suffices, response, late, first_late, admitted, duty_at}
+use Rattle.model.specs.declared.duties.Duty.{Duty}
+use Rattle.model.proofs.Found.{none_is, search_finds}
+use Rattle.model.proofs.Searches.{none_passes}
 
 -- 1 ≤ cost ≤ deadline ≤ separation ≤ 4,096.
 pub record Limits (duty : Duty) : Type 0 where
-  pub cost-some : 1 ≤ duty .cost
-  pub cost-fits : duty .cost ≤ duty .deadline
-  pub deadline-fits : duty .deadline ≤ duty .separation
-  pub separation-fits : duty .separation ≤ 4096
+  pub cost_some : 1 ≤ duty.cost
+  pub cost_fits : duty.cost ≤ duty.deadline
+  pub deadline_fits : duty.deadline ≤ duty.separation
+  pub separation_fits : duty.separation ≤ 4096
 
-pub limits-of : (duty : Duty) → within-limits duty ≡ true → Limits duty
-limits-of duty h =
+pub limits_of : (duty : Duty) → within_limits duty ≡ true → Limits duty
+limits_of duty h =
     record {
-      cost-some = grind (arith, tells);
-      cost-fits = grind (arith, tells);
-      deadline-fits = grind (arith, tells);
-      separation-fits = grind (arith, tells);
+      cost_some = grind (arith, nat_tests);
+      cost_fits = grind (arith, nat_tests);
+      deadline_fits = grind (arith, nat_tests);
+      separation_fits = grind (arith, nat_tests);
     }
 
 -- Each duty of a table within its limits is.
-pub within-at : (table : List Duty) → all-within table ≡ true → (i : ℕ) → i < length table → within-limits (duty-at table i) ≡ true
-within-at [] h i short = absurd (omega arith)
-within-at (duty ∷ table) h zero short = and-parts (within-limits duty) (all-within table) h .0
-within-at (duty ∷ table) h (suc i) short = within-at table (and-parts (within-limits duty) (all-within table) h .1) i (omega arith)
+pub within_at : (table : List Duty) → all_within table ≡ true → (i : ℕ) → i < length table → within_limits (duty_at table i) ≡ true
+within_at [] h i short = absurd (omega arith)
+within_at (duty ∷ table) h zero short = (and_parts (within_limits duty) (all_within table) h).0
+within_at (duty ∷ table) h (suc i) short = within_at table (and_parts (within_limits duty) (all_within table) h).1 i (omega arith)
 
-pub limits-at : (table : List Duty) → all-within table ≡ true → (i : ℕ) → i < length table → Limits (duty-at table i)
-limits-at table h i short = limits-of (duty-at table i) (within-at table h i short)
+pub limits_at : (table : List Duty) → all_within table ≡ true → (i : ℕ) → i < length table → Limits (duty_at table i)
+limits_at table h i short = limits_of (duty_at table i) (within_at table h i short)
 
 -- What `admitted` says: few rows, each within its limits and none late.
 pub record Admitted (table : List Duty) : Type 0 where
   pub few : length table ≤ 16
-  pub within : all-within table ≡ true
-  pub on-time : first-late table ≡ None
+  pub within : all_within table ≡ true
+  pub on_time : first_late table ≡ None
 
-pub admitted-says : (table : List Duty) → admitted table ≡ true → Admitted table
-admitted-says table ok =
-    let (sizes, responses) = and-parts (leb (length table) 16 && all-within table) (not (isSome (first-late table))) ok in
-    let (few, within) = and-parts (leb (length table) 16) (all-within table) sizes in
+pub admitted_says : (table : List Duty) → admitted table ≡ true → Admitted table
+admitted_says table ok =
+    let (sizes, responses) = and_parts (leb (length table) 16 && all_within table) (not (is_some (first_late table))) ok in
+    let (few, within) = and_parts (leb (length table) 16) (all_within table) sizes in
     record {
       few = leb-true (length table) 16 few;
       within = within;
-      on-time = none-is (first-late table) (not-true (isSome (first-late table)) responses);
+      on_time = none_is (first_late table) (not-true (is_some (first_late table)) responses);
     }
 
-pub says-admitted : (table : List Duty) → Admitted table → admitted table ≡ true
-says-admitted table h =
-    and-from (leb (length table) 16 && all-within table) (not (isSome (first-late table)))
-    (and-from (leb (length table) 16) (all-within table) (le-leb (length table) 16 (h .few)) (h .within))
-    (ap (λ o. not (isSome o)) (h .on-time))
+pub says_admitted : (table : List Duty) → Admitted table → admitted table ≡ true
+says_admitted table h =
+    and_from (leb (length table) 16 && all_within table) (not (is_some (first_late table)))
+    (and_from (leb (length table) 16) (all_within table) (le-leb (length table) 16 h.few) h.within)
+    (ap (λ o. not (is_some o)) h.on_time)
 
 module _ (table : List Duty) (ok : admitted table ≡ true) where
   -- Each duty is within its limits.
-  pub admitted-limits : (i : ℕ) → i < length table → Limits (duty-at table i)
-  admitted-limits = limits-at table (admitted-says table ok .within)
+  pub admitted_limits : (i : ℕ) → i < length table → Limits (duty_at table i)
+  admitted_limits = limits_at table (admitted_says table ok).within
 
   -- Each row has a response time,
-  pub has-response : (i : ℕ) → i < length table → isSome (response table i) ≡ true
-  has-response i short =
-      not-false (isSome (response table i))
-      (none-passes (late table) 0 (length table) (admitted-says table ok .on-time) i (omega arith) (omega arith))
+  pub has_response : (i : ℕ) → i < length table → is_some (response table i) ≡ true
+  has_response i short =
+      not-false (is_some (response table i))
+      (none_passes (late table) 0 (length table) (admitted_says table ok).on_time i (omega arith) (omega arith))
 
   -- a number of ticks within its deadline that suffices.
-  pub admitted-response :
+  pub admitted_response :
       (i : ℕ)
       → i < length table
-      → (w : ℕ) × (1 ≤ w) × (w ≤ duty-at table i .deadline) × (busy (take (suc i) table) w ≤ w)
-  admitted-response i short =
-      let (w, found) = search-finds (suffices table i) 1 (duty-at table i .deadline) (has-response i short) in
-      (w, found .above, omega (arith, found .below), leb-true (busy (take (suc i) table) w) w (found .passed))
+      → (w : ℕ) × (1 ≤ w) × (w ≤ (duty_at table i).deadline) × (busy (take (suc i) table) w ≤ w)
+  admitted_response i short =
+      let (w, found) = search_finds (suffices table i) 1 (duty_at table i).deadline (has_response i short) in
+      (w, found.above, omega (arith, found.below), leb-true (busy (take (suc i) table) w) w found.passed)

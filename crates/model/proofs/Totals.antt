@@ -2,185 +2,176 @@
 -- numbers below some bound, of what the accounts say of that number. A bound above every number that occurs exists
 -- since a run and the lists of those that wait are finite, and a list has each number once, so that none of its
 -- units is counted twice or passed over.
-use Prim.Native.Nat.{ℕ, suc, _+_, _≤_, _<_}
-use mathlib.Core.Path.{_≡_, refl, sym, ap, _∙_}
-use mathlib.Core.Bool.{Bool, true, false, cond, not, _&&_}
-use mathlib.Core.List.{List, [], _∷_}
-use mathlib.Core.Logic.{⊎-elim}
-use native.Mathlib.Omega.{arith}
-use lib.Dec.{eqb}
-use Rattle·std.specs.Options.{isSome}
-use Rattle·std.specs.declared.option.Option.the-variants.{Some, None}
-use Rattle·std.specs.declared.result.Result.the-variants.{Ok, Err}
-use Rattle·std.proofs.shelf.Tests.{cases-eq, and-parts, not-true, eq-eqb, ne-eqb, cond-true, cond-false}
-use Rattle·model·specs.Machine.{State, Step, fresh}
-use Rattle·model·specs.Queues.{look, units-in, errand-within, distinct}
-use Rattle·model·specs.Runs.{Run, stay, step, Trace, total, was-accepted, of-tick, errand-had, given-back, asked-for, is-withdraw, accepted, served, withdrawn}
-use Rattle·model·specs.Totals.{asked, any-errand-had, total-accepted, total-served, total-withdrawn, total-units, Totals-balance}
-use Rattle·model·specs.declared.calls.Answer.{Answer}
-use Rattle·model·specs.declared.calls.Answer.the-variants.{Accepted, Withdrawn, Slack as Slack-is, Ticked, Refused}
-use Rattle·model·specs.declared.calls.Call.{Call}
-use Rattle·model·specs.declared.calls.Call.the-variants.{Release, Done, Request, Withdraw, Slack, Tick}
-use Rattle·model·specs.declared.calls.Who.{Who}
-use Rattle·model·specs.declared.calls.Who.the-variants.{Nobody, Duty as For-duty, Errand as For-errand}
-use Rattle·model·specs.declared.duties.Duty.{Duty}
-use Rattle·model·specs.declared.errands.Errand.{Errand}
-use Rattle·model·proofs.Accounts.{units-of, units-looked-up, accounts-kept, run-sound}
-use Rattle·model·proofs.Found.{none-is}
-use Rattle·model·proofs.Sums.{sum-to, sum-none, sum-same, sum-both, sum-alone}
+use Rattle.std.proofs.Common.{◌≡◌, ℕ, suc, ◌+◌, ◌<◌, ◌≤◌, Bool, true, false, cond, not, ◌&&◌, eqb, List, [], ◌∷◌, is_some, Some, None, Ok, Err, sym, refl, ap, ◌∙◌, ⊎_elim, arith}
+use Rattle.std.proofs.lemmas.Bool.{cases_eq, and_parts, not-true, eq-eqb, ne_eqb, cond-true, cond-false}
+use Rattle.model.specs.Machine.{State, Step, fresh}
+use Rattle.model.specs.Queues.{look, units_in, errand_within, distinct}
+use Rattle.model.specs.Runs.{Run, stay, step, Trace, total, was_accepted, of_tick, errand_had, given_back, asked_for, is_withdraw, accepted, served, withdrawn}
+use Rattle.model.specs.Totals.{asked, any_errand_had, total_accepted, total_served, total_withdrawn, total_units, TotalsBalance}
+use Rattle.model.specs.declared.calls.Answer.{Answer}
+use Rattle.model.specs.declared.calls.Answer.TheVariants.{Accepted, Withdrawn, Slack as SlackIs, Ticked, Refused}
+use Rattle.model.specs.declared.calls.Call.{Call}
+use Rattle.model.specs.declared.calls.Call.TheVariants.{Release, Done, Request, Withdraw, Slack, Tick}
+use Rattle.model.specs.declared.calls.Who.{Who}
+use Rattle.model.specs.declared.calls.Who.TheVariants.{Nobody, Duty as ForDuty, Errand as ForErrand}
+use Rattle.model.specs.declared.duties.Duty.{Duty}
+use Rattle.model.specs.declared.errands.Errand.{Errand}
+use Rattle.model.proofs.Accounts.{units_of, units_looked_up, accounts_kept, run_sound}
+use Rattle.model.proofs.Found.{none_is}
+use Rattle.model.proofs.Sums.{sum_to, sum_none, sum_same, sum_both, sum_alone}
 
 -- Above the errand number that a call, an answer's tick, a run or a list has. A sum of such bounds is above each.
-abbrev call-bound : Call → ℕ
-call-bound (Release i) = 0
-call-bound (Done i) = 0
-call-bound (Request e) = suc (e .number)
-call-bound (Withdraw n) = suc n
-call-bound Slack = 0
-call-bound Tick = 0
+abbrev call_bound : Call → ℕ
+call_bound (Release i) = 0
+call_bound (Done i) = 0
+call_bound (Request e) = suc e.number
+call_bound (Withdraw n) = suc n
+call_bound Slack = 0
+call_bound Tick = 0
 
-abbrev who-bound : Who → ℕ
-who-bound Nobody = 0
-who-bound (For-duty i) = 0
-who-bound (For-errand n) = suc n
+abbrev who_bound : Who → ℕ
+who_bound Nobody = 0
+who_bound (ForDuty i) = 0
+who_bound (ForErrand n) = suc n
 
-abbrev step-bound : Call → Answer → ℕ
-step-bound call answer = call-bound call + of-tick who-bound answer
+abbrev step_bound : Call → Answer → ℕ
+step_bound call answer = call_bound call + of_tick who_bound answer
 
-abbrev list-bound : List Errand → ℕ
-list-bound [] = 0
-list-bound (e ∷ es) = suc (e .number) + list-bound es
+abbrev list_bound : List Errand → ℕ
+list_bound [] = 0
+list_bound (e ∷ es) = suc e.number + list_bound es
 
 -- A list has the units of its first errand under that number, and those of the others as they were.
-units-first :
+units_first :
     (e : Errand) (es : List Errand) (n : ℕ)
-    → look es (e .number) ≡ None → units-in (e ∷ es) n ≡ cond (eqb (e .number) n) (e .units) 0 + units-in es n
-units-first e es n new =
-    ⊎-elim
-    (λ (same : e .number ≡ n).
-    let yes = eq-eqb (e .number) n same in
-    let first : units-in (e ∷ es) n ≡ e .units =
-    units-looked-up (e ∷ es) n ∙ ap units-of (cond-true (eqb (e .number) n) (Some e) (look es n) yes) in
-    let none : units-in es n ≡ 0 = rw (← same) (units-looked-up es (e .number) ∙ ap units-of new) in
-    rw (cond-true (eqb (e .number) n) (e .units) 0 yes) (omega arith))
-    (λ (other : e .number ≡ n → ⊥).
-    let no = ne-eqb (e .number) n other in
-    let others : units-in (e ∷ es) n ≡ units-in es n =
-    units-looked-up (e ∷ es) n
-    ∙ ap units-of (cond-false (eqb (e .number) n) (Some e) (look es n) no)
-    ∙ sym (units-looked-up es n) in
-    rw (cond-false (eqb (e .number) n) (e .units) 0 no) (omega arith))
-    (cases-eq (e .number) n)
+    → look es e.number ≡ None → units_in (e ∷ es) n ≡ cond (eqb e.number n) e.units 0 + units_in es n
+units_first e es n new =
+    ⊎_elim
+    (λ (same : e.number ≡ n).
+    let yes = eq-eqb e.number n same in
+    let first : units_in (e ∷ es) n ≡ e.units =
+    units_looked_up (e ∷ es) n ∙ ap units_of (cond-true (eqb e.number n) (Some e) (look es n) yes) in
+    let none : units_in es n ≡ 0 = rw (← same) (units_looked_up es e.number ∙ ap units_of new) in
+    rw (cond-true (eqb e.number n) e.units 0 yes) (omega arith))
+    (λ (other : e.number ≡ n → ⊥).
+    let no = ne_eqb e.number n other in
+    let others : units_in (e ∷ es) n ≡ units_in es n =
+    units_looked_up (e ∷ es) n
+    ∙ ap units_of (cond-false (eqb e.number n) (Some e) (look es n) no)
+    ∙ sym (units_looked_up es n) in
+    rw (cond-false (eqb e.number n) e.units 0 no) (omega arith))
+    (cases_eq e.number n)
 
 module _ (bound : ℕ) where
-  sum-zero : sum-to (λ n. 0) bound ≡ 0
-  sum-zero = sum-none (λ n. 0) bound (λ n h. refl)
+  sum_zero : sum_to (λ n. 0) bound ≡ 0
+  sum_zero = sum_none (λ n. 0) bound (λ n h. refl)
 
   -- What stands under one number is what stands under all.
-  under-one-number : (k x : ℕ) → k < bound → sum-to (λ n. cond (eqb k n) x 0) bound ≡ x
-  under-one-number k x below =
-      sum-alone (λ n. cond (eqb k n) x 0) k bound below
-      (λ n h other. cond-false (eqb k n) x 0 (ne-eqb k n (λ same. other (sym same))))
+  under_one_number : (k x : ℕ) → k < bound → sum_to (λ n. cond (eqb k n) x 0) bound ≡ x
+  under_one_number k x below =
+      sum_alone (λ n. cond (eqb k n) x 0) k bound below
+      (λ n h other. cond-false (eqb k n) x 0 (ne_eqb k n (λ same. other (sym same))))
       ∙ cond-true (eqb k k) x 0 (eq-eqb k k refl)
 
   -- All numbers' units in a list that has each number once are the units in the list.
-  units-of-all-numbers : (es : List Errand) → distinct es ≡ true → list-bound es ≤ bound → sum-to (units-in es) bound ≡ total-units es
-  units-of-all-numbers [] apart below = sum-zero
-  units-of-all-numbers (e ∷ es) apart below =
-      let (own, rest) = and-parts (errand-within e && not (isSome (look es (e .number)))) (distinct es) apart in
-      let (within, new) = and-parts (errand-within e) (not (isSome (look es (e .number)))) own in
-      let none = none-is (look es (e .number)) (not-true (isSome (look es (e .number))) new) in
-      sum-same (units-in (e ∷ es)) (λ n. cond (eqb (e .number) n) (e .units) 0 + units-in es n) bound (λ n h. units-first e es n none)
+  units_of_all_numbers : (es : List Errand) → distinct es ≡ true → list_bound es ≤ bound → sum_to (units_in es) bound ≡ total_units es
+  units_of_all_numbers [] apart below = sum_zero
+  units_of_all_numbers (e ∷ es) apart below =
+      let (own, rest) = and_parts (errand_within e && not (is_some (look es e.number))) (distinct es) apart in
+      let (within, new) = and_parts (errand_within e) (not (is_some (look es e.number))) own in
+      let none = none_is (look es e.number) (not-true (is_some (look es e.number)) new) in
+      sum_same (units_in (e ∷ es)) (λ n. cond (eqb e.number n) e.units 0 + units_in es n) bound (λ n h. units_first e es n none)
       ∙ omega (
         arith,
-        sum-both (λ n. cond (eqb (e .number) n) (e .units) 0) (units-in es) bound,
-        under-one-number (e .number) (e .units) (omega arith),
-        units-of-all-numbers es rest (omega arith),
+        sum_both (λ n. cond (eqb e.number n) e.units 0) (units_in es) bound,
+        under_one_number e.number e.units (omega arith),
+        units_of_all_numbers es rest (omega arith),
       )
 
   -- What a call asks for all numbers is what it asks; where it was refused that is nothing.
-  asked-of-all-numbers : (call : Call) → call-bound call ≤ bound → sum-to (λ n. asked-for n call) bound ≡ asked call
-  asked-of-all-numbers (Release i) below = sum-zero
-  asked-of-all-numbers (Done i) below = sum-zero
-  asked-of-all-numbers (Request e) below = under-one-number (e .number) (e .units) below
-  asked-of-all-numbers (Withdraw n) below = sum-zero
-  asked-of-all-numbers Slack below = sum-zero
-  asked-of-all-numbers Tick below = sum-zero
+  asked_of_all_numbers : (call : Call) → call_bound call ≤ bound → sum_to (λ n. asked_for n call) bound ≡ asked call
+  asked_of_all_numbers (Release i) below = sum_zero
+  asked_of_all_numbers (Done i) below = sum_zero
+  asked_of_all_numbers (Request e) below = under_one_number e.number e.units below
+  asked_of_all_numbers (Withdraw n) below = sum_zero
+  asked_of_all_numbers Slack below = sum_zero
+  asked_of_all_numbers Tick below = sum_zero
 
-  accepted-of-all-numbers :
-      (yes : Bool) (call : Call) → call-bound call ≤ bound → sum-to (λ n. cond yes (asked-for n call) 0) bound ≡ cond yes (asked call) 0
-  accepted-of-all-numbers true call below = asked-of-all-numbers call below
-  accepted-of-all-numbers false call below = sum-zero
+  accepted_of_all_numbers :
+      (yes : Bool) (call : Call) → call_bound call ≤ bound → sum_to (λ n. cond yes (asked_for n call) 0) bound ≡ cond yes (asked call) 0
+  accepted_of_all_numbers true call below = asked_of_all_numbers call below
+  accepted_of_all_numbers false call below = sum_zero
 
   -- A tick that some number had is one that an errand had.
-  had-of-all-numbers : (who : Who) → who-bound who ≤ bound → sum-to (λ n. errand-had n who) bound ≡ any-errand-had who
-  had-of-all-numbers Nobody below = sum-zero
-  had-of-all-numbers (For-duty i) below = sum-zero
-  had-of-all-numbers (For-errand k) below = under-one-number k 1 below
+  had_of_all_numbers : (who : Who) → who_bound who ≤ bound → sum_to (λ n. errand_had n who) bound ≡ any_errand_had who
+  had_of_all_numbers Nobody below = sum_zero
+  had_of_all_numbers (ForDuty i) below = sum_zero
+  had_of_all_numbers (ForErrand k) below = under_one_number k 1 below
 
-  served-of-all-numbers :
-      (answer : Answer) → of-tick who-bound answer ≤ bound → sum-to (λ n. of-tick (errand-had n) answer) bound ≡ of-tick any-errand-had answer
-  served-of-all-numbers Accepted below = sum-zero
-  served-of-all-numbers (Withdrawn units) below = sum-zero
-  served-of-all-numbers (Slack-is k) below = sum-zero
-  served-of-all-numbers (Ticked k who) below = had-of-all-numbers who below
-  served-of-all-numbers (Refused why) below = sum-zero
+  served_of_all_numbers :
+      (answer : Answer) → of_tick who_bound answer ≤ bound → sum_to (λ n. of_tick (errand_had n) answer) bound ≡ of_tick any_errand_had answer
+  served_of_all_numbers Accepted below = sum_zero
+  served_of_all_numbers (Withdrawn units) below = sum_zero
+  served_of_all_numbers (SlackIs k) below = sum_zero
+  served_of_all_numbers (Ticked k who) below = had_of_all_numbers who below
+  served_of_all_numbers (Refused why) below = sum_zero
 
   module _ (table : List Duty) where
     -- Units come back by a withdraw alone, under its number.
-    withdrawn-of-all-numbers :
-        (s : State) (call : Call) (answer : Answer) (s′ : State)
-        → Step table s call answer s′
-        → call-bound call ≤ bound
-        → sum-to (λ n. cond (is-withdraw n call) (given-back answer) 0) bound ≡ given-back answer
-    withdrawn-of-all-numbers s (Release i) answer s′ (Ok x, answered, called) below = rw answered sum-zero
-    withdrawn-of-all-numbers s (Release i) answer s′ (Err why, answered, called) below = rw answered sum-zero
-    withdrawn-of-all-numbers s (Done i) answer s′ (Ok x, answered, called) below = rw answered sum-zero
-    withdrawn-of-all-numbers s (Done i) answer s′ (Err why, answered, called) below = rw answered sum-zero
-    withdrawn-of-all-numbers s (Request e) answer s′ (Ok x, answered, requested) below = rw answered sum-zero
-    withdrawn-of-all-numbers s (Request e) answer s′ (Err why, answered, requested) below = rw answered sum-zero
-    withdrawn-of-all-numbers s (Withdraw k) answer s′ one below = under-one-number k (given-back answer) below
-    withdrawn-of-all-numbers s Slack answer s′ (answered, same) below = rw answered sum-zero
-    withdrawn-of-all-numbers s Tick answer s′ (Ok told, answered, ticked) below = rw answered sum-zero
-    withdrawn-of-all-numbers s Tick answer s′ (Err why, answered, ticked) below = rw answered sum-zero
+    withdrawn_of_all_numbers :
+        (s : State) (call : Call) (answer : Answer) (s' : State)
+        → Step table s call answer s'
+        → call_bound call ≤ bound
+        → sum_to (λ n. cond (is_withdraw n call) (given_back answer) 0) bound ≡ given_back answer
+    withdrawn_of_all_numbers s (Release i) answer s' (Ok x, answered, called) below = rw answered sum_zero
+    withdrawn_of_all_numbers s (Release i) answer s' (Err why, answered, called) below = rw answered sum_zero
+    withdrawn_of_all_numbers s (Done i) answer s' (Ok x, answered, called) below = rw answered sum_zero
+    withdrawn_of_all_numbers s (Done i) answer s' (Err why, answered, called) below = rw answered sum_zero
+    withdrawn_of_all_numbers s (Request e) answer s' (Ok x, answered, requested) below = rw answered sum_zero
+    withdrawn_of_all_numbers s (Request e) answer s' (Err why, answered, requested) below = rw answered sum_zero
+    withdrawn_of_all_numbers s (Withdraw k) answer s' one below = under_one_number k (given_back answer) below
+    withdrawn_of_all_numbers s Slack answer s' (answered, same) below = rw answered sum_zero
+    withdrawn_of_all_numbers s Tick answer s' (Ok told, answered, ticked) below = rw answered sum_zero
+    withdrawn_of_all_numbers s Tick answer s' (Err why, answered, ticked) below = rw answered sum_zero
 
     -- Where g says of each step what f says of it for all numbers, so do their totals over a run.
-    totals-of-all-numbers :
+    totals_of_all_numbers :
         (f : ℕ → Call → Answer → ℕ) (g : Call → Answer → ℕ)
-        → ((s : State) (call : Call) (answer : Answer) (s′ : State)
-        → Step table s call answer s′ → step-bound call answer ≤ bound → sum-to (λ n. f n call answer) bound ≡ g call answer)
+        → ((s : State) (call : Call) (answer : Answer) (s' : State)
+        → Step table s call answer s' → step_bound call answer ≤ bound → sum_to (λ n. f n call answer) bound ≡ g call answer)
         → (s : State) (trace : Trace) (end : State)
-        → Run table s trace end → total step-bound trace ≤ bound → sum-to (λ n. total (f n) trace) bound ≡ total g trace
-    totals-of-all-numbers f g each s trace end stay below = sum-zero
-    totals-of-all-numbers f g each s trace end (step {s′ = s′} {call = call} {answer = answer} {rest = rest} one more) below =
+        → Run table s trace end → total step_bound trace ≤ bound → sum_to (λ n. total (f n) trace) bound ≡ total g trace
+    totals_of_all_numbers f g each s trace end stay below = sum_zero
+    totals_of_all_numbers f g each s trace end (step {s' = s'} {call = call} {answer = answer} {rest = rest} one more) below =
         omega (
           arith,
-          sum-both (λ n. f n call answer) (λ n. total (f n) rest) bound,
-          each s call answer s′ one (omega arith),
-          totals-of-all-numbers f g each s′ rest end more (omega arith),
+          sum_both (λ n. f n call answer) (λ n. total (f n) rest) bound,
+          each s call answer s' one (omega arith),
+          totals_of_all_numbers f g each s' rest end more (omega arith),
         )
 
-pub totals-balance : Totals-balance
-totals-balance table m trace end sound run =
+pub totals_balance : TotalsBalance
+totals_balance table m trace end sound run =
     let start : State = fresh table m in
-    let last : List Errand = end .queue .waiting in
-    let bound : ℕ = list-bound (m .waiting) + total step-bound trace + list-bound last in
-    let all-accepted : sum-to (λ n. accepted n trace) bound ≡ total-accepted trace =
-    totals-of-all-numbers bound table (λ n call answer. cond (was-accepted answer) (asked-for n call) 0)
-    (λ call answer. cond (was-accepted answer) (asked call) 0)
-    (λ s call answer s′ one below. accepted-of-all-numbers bound (was-accepted answer) call (omega arith)) start trace end run (omega arith) in
-    let all-served : sum-to (λ n. served n trace) bound ≡ total-served trace =
-    totals-of-all-numbers bound table (λ n call answer. of-tick (errand-had n) answer) (λ call answer. of-tick any-errand-had answer)
-    (λ s call answer s′ one below. served-of-all-numbers bound answer (omega arith)) start trace end run (omega arith) in
-    let all-withdrawn : sum-to (λ n. withdrawn n trace) bound ≡ total-withdrawn trace =
-    totals-of-all-numbers bound table (λ n call answer. cond (is-withdraw n call) (given-back answer) 0) (λ call answer. given-back answer)
-    (λ s call answer s′ one below. withdrawn-of-all-numbers bound table s call answer s′ one (omega arith)) start trace end run (omega arith) in
+    let last : List Errand = end.queue.waiting in
+    let bound : ℕ = list_bound m.waiting + total step_bound trace + list_bound last in
+    let all-accepted : sum_to (λ n. accepted n trace) bound ≡ total_accepted trace =
+    totals_of_all_numbers bound table (λ n call answer. cond (was_accepted answer) (asked_for n call) 0)
+    (λ call answer. cond (was_accepted answer) (asked call) 0)
+    (λ s call answer s' one below. accepted_of_all_numbers bound (was_accepted answer) call (omega arith)) start trace end run (omega arith) in
+    let all-served : sum_to (λ n. served n trace) bound ≡ total_served trace =
+    totals_of_all_numbers bound table (λ n call answer. of_tick (errand_had n) answer) (λ call answer. of_tick any_errand_had answer)
+    (λ s call answer s' one below. served_of_all_numbers bound answer (omega arith)) start trace end run (omega arith) in
+    let all-withdrawn : sum_to (λ n. withdrawn n trace) bound ≡ total_withdrawn trace =
+    totals_of_all_numbers bound table (λ n call answer. cond (is_withdraw n call) (given_back answer) 0) (λ call answer. given_back answer)
+    (λ s call answer s' one below. withdrawn_of_all_numbers bound table s call answer s' one (omega arith)) start trace end run (omega arith) in
     omega (
       arith,
-      units-of-all-numbers bound (m .waiting) (sound .each-once) (omega arith),
-      units-of-all-numbers bound last (run-sound table start trace end run sound .each-once) (omega arith),
-      sum-both (units-in (m .waiting)) (λ n. accepted n trace) bound,
-      sum-both (λ n. served n trace + withdrawn n trace) (units-in last) bound,
-      sum-both (λ n. served n trace) (λ n. withdrawn n trace) bound,
-      sum-same (λ n. units-in (m .waiting) n + accepted n trace) (λ n. served n trace + withdrawn n trace + units-in last n) bound
-          (λ n h. accounts-kept table start trace end run sound n),
+      units_of_all_numbers bound m.waiting sound.each_once (omega arith),
+      units_of_all_numbers bound last (run_sound table start trace end run sound).each_once (omega arith),
+      sum_both (units_in m.waiting) (λ n. accepted n trace) bound,
+      sum_both (λ n. served n trace + withdrawn n trace) (units_in last) bound,
+      sum_both (λ n. served n trace) (λ n. withdrawn n trace) bound,
+      sum_same (λ n. units_in m.waiting n + accepted n trace) (λ n. served n trace + withdrawn n trace + units_in last n) bound
+          (λ n h. accounts_kept table start trace end run sound n),
     )

@@ -1,67 +1,63 @@
 -- A run of the machine worked out in full, and a state of it that has no tick to spare. They show that what is said
 -- of runs, slack and futures is said of something: an errand is served while there is slack and a duty once there is
 -- none, calls are refused, and a tick spared without slack leads to a missed deadline.
-use Prim.Native.Nat.{ℕ, _+_}
-use mathlib.Core.Path.{_≡_}
-use mathlib.Core.Bool.{true}
-use mathlib.Core.List.{List, [], _∷_}
-use Rattle·std.specs.declared.option.Option.the-variants.{Some, None}
-use Rattle·model·specs.Futures.{Move, release, tick, Lawful, misses}
-use Rattle·model·specs.Machine.{State, Step, fresh, slack-of}
-use Rattle·model·specs.Queues.{Meaning}
-use Rattle·model·specs.Runs.{Run, Trace}
-use Rattle·model·specs.Table.{admitted}
-use Rattle·model·specs.Worked.{three, all-released}
-use Rattle·model·specs.declared.calls.Answer.{Answer}
-use Rattle·model·specs.declared.calls.Answer.the-variants.{Accepted, Withdrawn, Slack as Slack-is, Ticked, Refused}
-use Rattle·model·specs.declared.calls.Call.the-variants.{Release, Done, Request, Withdraw, Slack, Tick}
-use Rattle·model·specs.declared.calls.Who.the-variants.{Duty as For-duty, Errand as For-errand}
-use Rattle·model·specs.declared.errands.Errand.{Errand}
-use Rattle·model·specs.declared.refusals.Refusal.the-variants.{NoSuchRow, TooSoon, RowIdle, NotWaiting}
-use Rattle·model·specs.declared.rows.Row.the-variants.{Idle, Ready}
+use Rattle.std.specs.Prelude.{◌≡◌, ℕ, ◌+◌, true, List, [], ◌∷◌, Some, None}
+use Rattle.model.specs.Futures.{Move, release, tick, Lawful, misses}
+use Rattle.model.specs.Machine.{State, Step, fresh, slack_of}
+use Rattle.model.specs.Queues.{Meaning}
+use Rattle.model.specs.Runs.{Run, Trace}
+use Rattle.model.specs.Table.{admitted}
+use Rattle.model.specs.Worked.{three, all_released}
+use Rattle.model.specs.declared.calls.Answer.{Answer}
+use Rattle.model.specs.declared.calls.Answer.TheVariants.{Accepted, Withdrawn, Slack as SlackIs, Ticked, Refused}
+use Rattle.model.specs.declared.calls.Call.TheVariants.{Release, Done, Request, Withdraw, Slack, Tick}
+use Rattle.model.specs.declared.calls.Who.TheVariants.{Duty as ForDuty, Errand as ForErrand}
+use Rattle.model.specs.declared.errands.Errand.{Errand}
+use Rattle.model.specs.declared.refusals.Refusal.TheVariants.{NoSuchRow, TooSoon, RowIdle, NotWaiting}
+use Rattle.model.specs.declared.rows.Row.TheVariants.{Idle, Ready}
 
 -- Errand 7, worth 10, with some units left.
-abbrev pub errand-7 : ℕ → Errand
-errand-7 units = record { number = 7; units = units; worth = 10 }
+abbrev pub errand_7 : ℕ → Errand
+errand_7 units = record { number = 7; units = units; worth = 10 }
 
 -- A queue of 64 places in which nothing waits; one in which errand 7 does.
-abbrev pub empty-queue : Meaning
-empty-queue = record { waiting = []; named = None; places = 64 }
+abbrev pub empty_queue : Meaning
+empty_queue = record { waiting = []; named = None; places = 64 }
 
 abbrev pub holding : ℕ → Meaning
-holding units = record { waiting = errand-7 units ∷ []; named = Some 7; places = 64 }
+holding units = record { waiting = errand_7 units ∷ []; named = Some 7; places = 64 }
 
 -- Over the three duties of cost, deadline and separation 1, 4, 4 and 2, 6, 6 and 3, 12, 12: each is released at the
 -- start, and errand 7 requested with three units. Two ticks can be spared and go to the errand; then the duties need
 -- each one. Row 0 is released again as soon as it may be, and not before.
-abbrev pub worked-out : Trace
-worked-out =
+abbrev pub worked_out : Trace
+worked_out =
     (Release 0, Accepted)
     ∷ (Release 1, Accepted)
     ∷ (Release 2, Accepted)
     ∷ (Release 3, Refused NoSuchRow)
-    ∷ (Request (errand-7 3), Accepted)
-    ∷ (Slack, Slack-is 2)
-    ∷ (Tick, Ticked 2 (For-errand 7))
-    ∷ (Tick, Ticked 1 (For-errand 7))
-    ∷ (Tick, Ticked 0 (For-duty 0))
+    ∷ (Request (errand_7 3), Accepted)
+    ∷ (Slack, SlackIs 2)
+    ∷ (Tick, Ticked 2 (ForErrand 7))
+    ∷ (Tick, Ticked 1 (ForErrand 7))
+    ∷ (Tick, Ticked 0 (ForDuty 0))
     ∷ (Release 0, Refused TooSoon)
     ∷ (Done 0, Refused RowIdle)
-    ∷ (Tick, Ticked 0 (For-duty 1))
+    ∷ (Tick, Ticked 0 (ForDuty 1))
     ∷ (Release 0, Accepted)
-    ∷ (Tick, Ticked 0 (For-duty 0))
+    ∷ (Tick, Ticked 0 (ForDuty 0))
     ∷ (Withdraw 7, Withdrawn 1)
     ∷ (Withdraw 7, Refused NotWaiting)
     ∷ (Done 1, Accepted)
     ∷ []
 
 -- The machine at its end,
-abbrev pub worked-out-end : State
-worked-out-end = record { clock = 5; rows = Idle 8 ∷ Idle 6 ∷ Ready 3 12 12 ∷ []; queue = empty-queue }
+abbrev pub worked_out_end : State
+worked_out_end = record { clock = 5; rows = Idle 8 ∷ Idle 6 ∷ Ready 3 12 12 ∷ []; queue = empty_queue }
 
 -- and before its third tick: an errand waits, and there is no slack.
-abbrev pub without-slack : State
-without-slack = record { clock = 2; rows = all-released; queue = holding 1 }
+abbrev pub without_slack : State
+without_slack = record { clock = 2; rows = all_released; queue = holding 1 }
 
 -- Had the errand that tick too, row 1 could miss its deadline at 6: row 0 has the tick at 3, is released again at 4
 -- and has that tick, and one tick alone is left to row 1.
@@ -69,13 +65,13 @@ abbrev pub missing : List Move
 missing = tick ∷ release 0 ∷ tick ∷ tick ∷ []
 
 -- The same state with nothing but the clock raised.
-abbrev pub clock-alone : State → State
-clock-alone s = record { clock = s .clock + 1; rows = s .rows; queue = s .queue }
+abbrev pub clock_alone : State → State
+clock_alone s = record { clock = s.clock + 1; rows = s.rows; queue = s.queue }
 
-pub record Machine-examples : Type 0 where
-  pub table-admitted : admitted three ≡ true
-  pub run-worked-out : Run three (fresh three empty-queue) worked-out worked-out-end
-  pub no-slack : slack-of three without-slack ≡ 0
-  pub missing-lawful : Lawful three 3 (without-slack .rows) missing
-  pub missing-misses : misses three 3 (without-slack .rows) missing ≡ true
-  pub no-idle-tick : (answer : Answer) → Step three without-slack Tick answer (clock-alone without-slack) → ⊥
+pub record MachineExamples : Type 0 where
+  pub table_admitted : admitted three ≡ true
+  pub run_worked_out : Run three (fresh three empty_queue) worked_out worked_out_end
+  pub no_slack : slack_of three without_slack ≡ 0
+  pub missing_lawful : Lawful three 3 without_slack.rows missing
+  pub missing_misses : misses three 3 without_slack.rows missing ≡ true
+  pub no_idle_tick : (answer : Answer) → Step three without_slack Tick answer (clock_alone without_slack) → ⊥

@@ -1,10 +1,7 @@
 -- The number of each refusal, and the values that go with it.
-use Prim.Native.Nat.{ℕ}
-use mathlib.Core.List.{List, [], _∷_}
-use Rattle·std.specs.declared.result.Result.{Result}
-use Rattle·std.specs.declared.result.Result.the-variants.{Ok, Err}
-use Rattle·model·specs.declared.refusals.Refusal.{Refusal}
-use Rattle·model·specs.declared.refusals.Refusal.the-variants.{NoSuchRow, DutyLimits, TableFull, Unschedulable, TooSoon, RowIdle, ClockEnded, ErrandLimits, AlreadyWaiting, NoPlace, NotWaiting}
+use Rattle.std.specs.Prelude.{ℕ, List, [], ◌∷◌, Ok, Err, Result}
+use Rattle.model.specs.declared.refusals.Refusal.{Refusal}
+use Rattle.model.specs.declared.refusals.Refusal.TheVariants.{NoSuchRow, DutyLimits, TableFull, Unschedulable, TooSoon, RowIdle, ClockEnded, ErrandLimits, AlreadyWaiting, NoPlace, NotWaiting}
 
 -- What a refusal tells: its number, and behind the number of an unschedulable table the row.
 abbrev pub told : Refusal → List ℕ

@@ -1,8 +1,5 @@
 -- The least number that passes a test, and the greatest and the least value of a function.
-use Prim.Native.Nat.{ℕ, zero, suc, min, max}
-use mathlib.Core.Bool.{Bool, true, false}
-use Rattle·std.specs.declared.option.Option.{Option}
-use Rattle·std.specs.declared.option.Option.the-variants.{Some, None}
+use Rattle.std.specs.Prelude.{ℕ, zero, suc, min, max, Bool, true, false, Some, None, Option}
 
 -- The least of the n numbers from `low` on that passes the test, if any does.
 abbrev pub least : (ℕ → Bool) → ℕ → ℕ → Option ℕ

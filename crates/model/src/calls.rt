@@ -1,9 +1,4 @@
-use super::Errand;
-use super::Refusal;
-use crate::errands::ErrandDebug;
-use crate::errands::ErrandPartialEq;
-use crate::refusals::RefusalDebug;
-use crate::refusals::RefusalPartialEq;
+use super::{Errand, Refusal};
 
 // What a running dispatcher can be asked. Rows and errands go by their numbers.
 #[derive(Clone, Copy, PartialEq, Eq, Debug)]

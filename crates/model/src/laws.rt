@@ -1,30 +1,30 @@
 // The laws about the definitions, each the contract of a function that does nothing else: first those of tables and slack,
 // then those of the machine and its runs, then worked examples.
-ghost use Rattle·model·specs.Always.{Kept-always};
-ghost use Rattle·model·specs.Idle.{Slack-is-greatest, Slack-is-idle-ticks};
-ghost use Rattle·model·specs.MachineExamples.{Machine-examples};
-ghost use Rattle·model·specs.Promise.{Every-run-keeps-the-promise};
-ghost use Rattle·model·specs.Responses.{Response-is-least};
-ghost use Rattle·model·specs.Totals.{Totals-balance};
-ghost use Rattle·model·specs.Worked.{Worked-examples};
+ghost use Rattle.model.specs.Always.{KeptAlways};
+ghost use Rattle.model.specs.Idle.{SlackIsGreatest, SlackIsIdleTicks};
+ghost use Rattle.model.specs.MachineExamples.{MachineExamples};
+ghost use Rattle.model.specs.Promise.{EveryRunKeepsThePromise};
+ghost use Rattle.model.specs.Responses.{ResponseIsLeast};
+ghost use Rattle.model.specs.Totals.{TotalsBalance};
+ghost use Rattle.model.specs.Worked.{WorkedExamples};
 
 // A response time is the least number of ticks that suffices.
 pub fn response_is_least() -> u8
-    ensures { λ _. ⌜ Response-is-least ⌝ }
+    ensures { ResponseIsLeast }
 {
     0
 }
 
 // The slack of a row is the number of idle ticks in its window.
 pub fn slack_is_idle_ticks() -> u8
-    ensures { λ _. ⌜ Slack-is-idle-ticks ⌝ }
+    ensures { SlackIsIdleTicks }
 {
     0
 }
 
 // The slack of a row is the greatest of what any number of ticks in its window has to spare.
 pub fn slack_is_greatest() -> u8
-    ensures { λ _. ⌜ Slack-is-greatest ⌝ }
+    ensures { SlackIsGreatest }
 {
     0
 }
@@ -32,35 +32,35 @@ pub fn slack_is_greatest() -> u8
 // From the start through every step no row's slack is below 0 and no job is overdue, and the slack is at least 1
 // exactly where a tick can be spared.
 pub fn kept_always() -> u8
-    ensures { λ _. ⌜ Kept-always ⌝ }
+    ensures { KeptAlways }
 {
     0
 }
 
 // Every run meets its deadlines, spares every tick that it can to an errand, and balances its accounts.
 pub fn every_run_keeps_the_promise() -> u8
-    ensures { λ _. ⌜ Every-run-keeps-the-promise ⌝ }
+    ensures { EveryRunKeepsThePromise }
 {
     0
 }
 
 // In every run the units that came in, over all errands, are those that went out and those that still wait.
 pub fn totals_balance() -> u8
-    ensures { λ _. ⌜ Totals-balance ⌝ }
+    ensures { TotalsBalance }
 {
     0
 }
 
 // Responses, refusals and slacks come out as reckoned by hand.
 pub fn worked_examples() -> u8
-    ensures { λ _. ⌜ Worked-examples ⌝ }
+    ensures { WorkedExamples }
 {
     0
 }
 
 // A run worked out in full, and a state without slack with the lawful future that misses.
 pub fn machine_examples() -> u8
-    ensures { λ _. ⌜ Machine-examples ⌝ }
+    ensures { MachineExamples }
 {
     0
 }

@@ -1,4 +1,6 @@
 // The vocabulary of the dispatcher: plain types, with the definitions in specs/ that contracts cite.
+#![tactic(auto)]
+
 mod calls;
 mod duties;
 mod errands;
@@ -6,19 +8,12 @@ mod laws;
 mod refusals;
 mod rows;
 
-pub use calls::Answer;
-pub use calls::Call;
-pub use calls::Who;
+pub use calls::{Answer, Call, Who};
 pub use duties::Duty;
 pub use errands::Errand;
-pub use laws::every_run_keeps_the_promise;
-pub use laws::kept_always;
-pub use laws::machine_examples;
-pub use laws::response_is_least;
-pub use laws::slack_is_greatest;
-pub use laws::slack_is_idle_ticks;
-pub use laws::totals_balance;
-pub use laws::worked_examples;
+pub use laws::{
+    every_run_keeps_the_promise, kept_always, machine_examples, response_is_least,
+    slack_is_greatest, slack_is_idle_ticks, totals_balance, worked_examples,
+};
 pub use refusals::Refusal;
-pub use rows::Row;
-pub use rows::RowCall;
+pub use rows::{Row, RowCall};

@@ -1,6 +1,5 @@
-ghost use mathlib.Core.Path.{_≡_};
-ghost use lib.ListN.{getD};
-ghost use Rattle·model·specs.Refusals.{told};
+ghost use Rattle.std.specs.Prelude.{◌≡◌, slice_index};
+ghost use Rattle.model.specs.Refusals.{told};
 
 // Why a call was refused.
 #[derive(Clone, Copy, PartialEq, Eq, Debug)]
@@ -32,7 +31,7 @@ pub enum Refusal {
 impl Refusal {
     // The number under which the refusal is reported.
     pub fn number(&self) -> u32
-        ensures { λ r. ⌜ r ≡ getD (told (now (self .entry))) 0 0 ⌝ }
+        ensures { result ≡ slice_index (told self.now) 0 }
     {
         match self {
             Refusal::NoSuchRow => 1,

@@ -1,9 +1,7 @@
 -- The rating of errands.
-use Prim.Native.Nat.{_*_}
-use mathlib.Core.Bool.{Bool}
-use lib.Dec.{ltb}
-use Rattle·queue·specs.declared.ratings.Rating.{Rating}
+use Rattle.std.specs.Prelude.{◌*◌, Bool, nat_lt}
+use Rattle.queue.specs.declared.ratings.Rating.{Rating}
 
 -- a has more worth for a unit than b: worth of a × units of b exceeds worth of b × units of a.
 abbrev pub outrates : Rating → Rating → Bool
-outrates a b = ltb (b .worth * a .units) (a .worth * b .units)
+outrates a b = nat_lt (b.worth * a.units) (a.worth * b.units)

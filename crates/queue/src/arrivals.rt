@@ -1,14 +1,12 @@
-ghost use mathlib.Core.Path.{_≡_};
-ghost use mathlib.Core.Bool.{true};
-ghost use Rattle·model.specs.Queues.{distinct};
-ghost use Rattle·list.specs.Held.{held};
-ghost use Rattle·queue·specs.Lines.{errands};
-ghost use Rattle·queue·specs.Pasts.{Arose, First-come};
+ghost use Rattle.std.specs.Prelude.{◌≡◌, true};
+ghost use Rattle.model.specs.Queues.{distinct};
+ghost use Rattle.list.specs.Held.{held};
+ghost use Rattle.queue.specs.Lines.{errands};
+ghost use Rattle.queue.specs.Pasts.{Arose, FirstComeLine};
 
 mod calls;
 
 use super::slots::Slot;
-pub use calls::FirstComeQueue;
 use list::OrderedList;
 
 // The queue that serves errands as they come. Its slots are rated alike, so its line stands in order of arrival. No
@@ -17,5 +15,5 @@ use list::OrderedList;
 pub struct FirstCome<'a> {
     line: OrderedList<'a, Slot>,
     ghost once: { distinct (errands (held line)) ≡ true },
-    ghost arose: { Arose First-come line },
+    ghost arose: { Arose FirstComeLine line },
 }

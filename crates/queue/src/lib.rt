@@ -1,4 +1,6 @@
 // Queues of errands: what every queue answers, and two queues over handed slots.
+#![tactic(auto)]
+
 mod arrivals;
 mod laws;
 mod lines;
@@ -8,9 +10,7 @@ mod slots;
 mod worths;
 
 pub use arrivals::FirstCome;
-pub use arrivals::FirstComeQueue;
 pub use laws::best_rated_is_best;
 pub use queues::Queue;
 pub use slots::Slot;
 pub use worths::ByWorth;
-pub use worths::ByWorthQueue;

@@ -1,13 +1,11 @@
-ghost use mathlib.Core.Path.{_≡_};
-ghost use mathlib.Core.Bool.{true};
-ghost use lib.ListN.{take};
-ghost use Rattle·model.specs.Queues.{errand-within, distinct, Put, Spend, Take};
-ghost use Rattle·list.specs.Held.{held};
-ghost use Rattle·list.specs.Order.{sorted};
-ghost use Rattle·queue·specs.Lines.{errands, line-meaning, place-of, first-number, LinesUp, ServesFirst, TakesOut};
-ghost use Rattle·queue·specs.Ranks.{ranks};
+ghost use Rattle.std.specs.Prelude.{◌≡◌, true, take};
+ghost use Rattle.model.specs.Queues.{errand_within, distinct, Put, Spend, Take};
+ghost use Rattle.list.specs.Held.{held};
+ghost use Rattle.list.specs.Order.{sorted};
+ghost use Rattle.queue.specs.Lines.{errands, line_meaning, place_of, first_number, LinesUp, ServesFirst, TakesOut};
+ghost use Rattle.queue.specs.Ranks.{ranks};
+
 use super::slots::Slot;
-use super::slots::SlotRanked;
 use list::OrderedList;
 use model::Refusal;
 
@@ -16,7 +14,7 @@ const MOST_PLACES: usize = 1024;
 
 // The slots that a queue uses: the first of those handed to it.
 pub(crate) fn own_slots(slots: &mut [Slot]) -> &mut [Slot]
-    ensures { λ r. ⌜ now r ≡ take 1024 (now (slots .entry)) ⌝ }
+    ensures { result.now ≡ take 1024 slots.old }
 {
     let most = slots.len().min(MOST_PLACES);
     &mut slots[0..most]
@@ -24,7 +22,7 @@ pub(crate) fn own_slots(slots: &mut [Slot]) -> &mut [Slot]
 
 // The place of the errand of a number, or the end where it does not wait.
 pub(crate) fn place_of(slots: &[Slot], number: u32) -> usize
-    ensures { λ r. ⌜ r ≡ place-of number (errands (now (slots .entry))) ⌝ }
+    ensures { result ≡ place_of number (errands slots.now) }
 {
     for (i, slot) in slots.iter().enumerate() {
         if slot.errand().number == number {
@@ -36,7 +34,7 @@ pub(crate) fn place_of(slots: &[Slot], number: u32) -> usize
 
 // The number of the first errand.
 pub(crate) fn first_number(line: &OrderedList<'_, Slot>) -> Option<u32>
-    ensures { λ r. ⌜ r ≡ first-number (errands (held (now (line .entry)))) ⌝ }
+    ensures { result ≡ first_number (errands (held line.now)) }
 {
     let slot = line.get(0)?;
     Some(slot.errand().number)
@@ -44,9 +42,9 @@ pub(crate) fn first_number(line: &OrderedList<'_, Slot>) -> Option<u32>
 
 // Lines a slot up, unless its number waits already or every place is taken.
 pub(crate) fn put_in(line: &mut OrderedList<'_, Slot>, slot: Slot) -> Result<(), Refusal>
-    ensures puts { λ r. ⌜ (errand-within (slot .errand) ≡ true → distinct (errands (held (now (line .entry)))) ≡ true → Put (line-meaning (now (line .entry))) (slot .errand) r (line-meaning (now (line .exit)))) ⌝ }
-    ensures lines { λ r. ⌜ LinesUp (now (line .entry)) slot r (now (line .exit)) ⌝ }
-    ensures order { λ _. ⌜ (sorted ranks (held (now (line .entry))) ≡ true → sorted ranks (held (now (line .exit))) ≡ true) ⌝ }
+    ensures puts { errand_within slot.errand ≡ true → distinct (errands (held line.old)) ≡ true → Put (line_meaning line.old) slot.errand result (line_meaning line.new) }
+    ensures lines { LinesUp line.old slot result line.new }
+    ensures order { sorted ranks (held line.old) ≡ true → sorted ranks (held line.new) ≡ true }
 {
     if place_of(line.entries(), slot.errand().number) < line.len() {
         return Err(Refusal::AlreadyWaiting);
@@ -56,9 +54,9 @@ pub(crate) fn put_in(line: &mut OrderedList<'_, Slot>, slot: Slot) -> Result<(),
 
 // Takes one unit from the first errand, and drops it with its last.
 pub(crate) fn spend_first(line: &mut OrderedList<'_, Slot>) -> Option<u32>
-    ensures spends { λ r. ⌜ (distinct (errands (held (now (line .entry)))) ≡ true → Spend (line-meaning (now (line .entry))) r (line-meaning (now (line .exit)))) ⌝ }
-    ensures lines { λ r. ⌜ ServesFirst (now (line .entry)) r (now (line .exit)) ⌝ }
-    ensures order { λ _. ⌜ (sorted ranks (held (now (line .entry))) ≡ true → sorted ranks (held (now (line .exit))) ≡ true) ⌝ }
+    ensures spends { distinct (errands (held line.old)) ≡ true → Spend (line_meaning line.old) result (line_meaning line.new) }
+    ensures lines { ServesFirst line.old result line.new }
+    ensures order { sorted ranks (held line.old) ≡ true → sorted ranks (held line.new) ≡ true }
 {
     let slot = line.get(0)?;
     let errand = slot.errand();
@@ -72,9 +70,9 @@ pub(crate) fn spend_first(line: &mut OrderedList<'_, Slot>) -> Option<u32>
 
 // Drops the errand of a number.
 pub(crate) fn take_out(line: &mut OrderedList<'_, Slot>, number: u32) -> Result<u32, Refusal>
-    ensures takes { λ r. ⌜ (distinct (errands (held (now (line .entry)))) ≡ true → Take (line-meaning (now (line .entry))) number r (line-meaning (now (line .exit)))) ⌝ }
-    ensures lines { λ r. ⌜ TakesOut (now (line .entry)) number r (now (line .exit)) ⌝ }
-    ensures order { λ _. ⌜ (sorted ranks (held (now (line .entry))) ≡ true → sorted ranks (held (now (line .exit))) ≡ true) ⌝ }
+    ensures takes { distinct (errands (held line.old)) ≡ true → Take (line_meaning line.old) number result (line_meaning line.new) }
+    ensures lines { TakesOut line.old number result line.new }
+    ensures order { sorted ranks (held line.old) ≡ true → sorted ranks (held line.new) ≡ true }
 {
     let place = place_of(line.entries(), number);
     match line.remove(place) {

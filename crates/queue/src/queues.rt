@@ -1,8 +1,8 @@
-ghost use mathlib.Core.Path.{_≡_};
-ghost use Rattle·model.specs.Histories.{History, Rule, Goes-on, by-put, by-spend, by-take};
-ghost use Rattle·model.specs.Queues.{Meaning, Sound, Put, Spend, Take};
-use model::Errand;
-use model::Refusal;
+ghost use Rattle.std.specs.Prelude.{◌≡◌};
+ghost use Rattle.model.specs.Histories.{History, Rule, GoesOn, by_put, by_spend, by_take};
+ghost use Rattle.model.specs.Queues.{Meaning, Sound, Put, Spend, Take};
+
+use model::{Errand, Refusal};
 
 // What answers the four calls on a queue of errands. Its meaning is which errands wait, which of them it names,
 // and how many places it has.
@@ -20,24 +20,24 @@ pub trait Queue {
     ghost rule: { Rule };
 
     // It names what its rule says.
-    ghost chooses: { (past : History) (q : Self) → arises past q → meaning q .named ≡ rule past };
+    ghost chooses: { (past : History) (q : Self) → arises past q → (meaning q).named ≡ rule past };
 
     // Has the errand wait, or says why not.
     fn put(&mut self, errand: Errand) -> Result<(), Refusal>
-        ensures step { λ r. ⌜ Put (meaning (now (self .entry))) errand r (meaning (now (self .exit))) ⌝ }
-        ensures history { λ r. ⌜ Goes-on arises (now (self .entry)) (by-put errand r) (now (self .exit)) ⌝ };
+        ensures step { Put (meaning self.old) errand result (meaning self.new) }
+        ensures history { GoesOn arises self.old (by_put errand result) self.new };
 
     // The number of the errand that is served next.
     fn name(&self) -> Option<u32>
-        ensures { λ r. ⌜ r ≡ meaning (now (self .entry)) .named ⌝ };
+        ensures { result ≡ (meaning self.now).named };
 
     // Takes one unit from the errand that is named, and answers its number.
     fn spend(&mut self) -> Option<u32>
-        ensures step { λ r. ⌜ Spend (meaning (now (self .entry))) r (meaning (now (self .exit))) ⌝ }
-        ensures history { λ r. ⌜ Goes-on arises (now (self .entry)) (by-spend r) (now (self .exit)) ⌝ };
+        ensures step { Spend (meaning self.old) result (meaning self.new) }
+        ensures history { GoesOn arises self.old (by_spend result) self.new };
 
     // Drops the errand of a number, and answers the units that it had left.
     fn take(&mut self, number: u32) -> Result<u32, Refusal>
-        ensures step { λ r. ⌜ Take (meaning (now (self .entry))) number r (meaning (now (self .exit))) ⌝ }
-        ensures history { λ r. ⌜ Goes-on arises (now (self .entry)) (by-take number r) (now (self .exit)) ⌝ };
+        ensures step { Take (meaning self.old) number result (meaning self.new) }
+        ensures history { GoesOn arises self.old (by_take number result) self.new };
 }

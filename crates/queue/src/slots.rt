@@ -1,11 +1,11 @@
-ghost use mathlib.Core.Path.{_≡_};
-ghost use Rattle·model.specs.Queues.{errand-within};
-ghost use Rattle·queue·specs.Ranks.{ranks, ranks-strict, ranks-chain};
-ghost use Rattle·queue·specs.Slots.{Holds, Made, with-units};
+ghost use Rattle.std.specs.Prelude.{◌≡◌};
+ghost use Rattle.model.specs.Queues.{errand_within};
+ghost use Rattle.queue.specs.Ranks.{ranks, ranks_strict, ranks_chain};
+ghost use Rattle.queue.specs.Slots.{Holds, Made, with_units};
+
 use super::ratings::Rating;
 use list::Ranked;
-use model::Errand;
-use model::Refusal;
+use model::{Errand, Refusal};
 
 // A place of a queue: the errand, with its units left, and its rating, which stays as it was when it was put.
 #[derive(Clone, Copy)]
@@ -14,12 +14,12 @@ pub struct Slot {
     rating: Rating,
 }
 
-pub impl Ranked for Slot as SlotRanked {
+impl Ranked for Slot {
     ghost before = { ranks };
 
-    ghost strict = { ranks-strict };
+    ghost strict = { ranks_strict };
 
-    ghost chain = { ranks-chain };
+    ghost chain = { ranks_chain };
 
     fn is_before(&self, other: &Slot) -> bool {
         self.rating.outrates(&other.rating)
@@ -32,7 +32,7 @@ const MOST_WORTH: u32 = 65535;
 
 // At least one unit, and no more units and worth than an errand may have.
 fn within_limits(errand: &Errand) -> bool
-    ensures { λ r. ⌜ r ≡ errand-within (now (errand .entry)) ⌝ }
+    ensures { result ≡ errand_within errand.now }
 {
     1 <= errand.units && errand.units <= MOST_UNITS && errand.worth <= MOST_WORTH
 }
@@ -40,7 +40,7 @@ fn within_limits(errand: &Errand) -> bool
 impl Slot {
     // A slot to hand to a queue: no queue reads it before an errand is put there.
     pub fn free() -> Slot
-        ensures { λ r. ⌜ Holds (record { number = 0; units = 1; worth = 0 }) 0 1 r ⌝ }
+        ensures { Holds (record { number = 0; units = 1; worth = 0 }) 0 1 result }
     {
         Slot {
             errand: Errand {
@@ -54,7 +54,7 @@ impl Slot {
 
     // A slot for an errand that is rated as every other, so that it outrates none.
     pub(crate) fn level(errand: Errand) -> Result<Slot, Refusal>
-        ensures { λ r. ⌜ Made errand 0 1 r ⌝ }
+        ensures { Made errand 0 1 result }
     {
         if !within_limits(&errand) {
             return Err(Refusal::ErrandLimits);
@@ -67,7 +67,7 @@ impl Slot {
 
     // A slot for an errand that is rated by its worth for its units.
     pub(crate) fn rated(errand: Errand) -> Result<Slot, Refusal>
-        ensures { λ r. ⌜ Made errand (errand .worth) (errand .units) r ⌝ }
+        ensures { Made errand errand.worth errand.units result }
     {
         if !within_limits(&errand) {
             return Err(Refusal::ErrandLimits);
@@ -80,14 +80,14 @@ impl Slot {
 
     // The errand, with its units left.
     pub(crate) fn errand(&self) -> Errand
-        ensures { λ r. ⌜ r ≡ now (self .entry) .errand ⌝ }
+        ensures { result ≡ self.now.errand }
     {
         self.errand
     }
 
     // The same with other units left.
     pub(crate) fn with_units(&self, units: u32) -> Slot
-        ensures { λ r. ⌜ r ≡ with-units (now (self .entry)) units ⌝ }
+        ensures { result ≡ with_units self.now units }
     {
         let errand = Errand {
             number: self.errand.number,

@@ -1,12 +1,8 @@
 // The queues on small cases: what they refuse, and in which order they serve.
-use model::Errand;
-use model::Refusal;
-use queue::ByWorth;
-use queue::ByWorthQueue;
-use queue::FirstCome;
-use queue::FirstComeQueue;
-use queue::Queue;
-use queue::Slot;
+#![tactic(auto)]
+
+use model::{Errand, Refusal};
+use queue::{ByWorth, FirstCome, Queue, Slot};
 use std::io;
 
 fn errand(number: u32, units: u32, worth: u32) -> Errand {
@@ -26,48 +22,48 @@ fn refusal(answer: Result<(), Refusal>) -> u32 {
 }
 
 // Puts the errands one by one, and prints what refused each.
-fn put_all<Q: Queue>(rt: &LibcRuntime, queue: &mut Q, errands: &[Errand]) -> io::Result<()> {
-    print!(rt, "put")?;
+fn put_all<Q: Queue>(rt: &HostRuntime, queue: &mut Q, errands: &[Errand]) -> io::Result<()> {
+    print!(rt; "put")?;
     for errand in errands {
         let number = refusal(queue.put(*errand));
-        print!(rt, " {number}")?;
+        print!(rt; " {number}")?;
     }
-    println!(rt, "")
+    println!(rt; "")
 }
 
 // Takes a number, and prints the units that it had left, or what refused it.
-fn take_one<Q: Queue>(rt: &LibcRuntime, queue: &mut Q, number: u32) -> io::Result<()> {
+fn take_one<Q: Queue>(rt: &HostRuntime, queue: &mut Q, number: u32) -> io::Result<()> {
     match queue.take(number) {
-        Ok(units) => println!(rt, "take {number} had {units}"),
+        Ok(units) => println!(rt; "take {number} had {units}"),
         Err(why) => {
             let refused = why.number();
-            println!(rt, "take {number} refused {refused}")
+            println!(rt; "take {number} refused {refused}")
         }
     }
 }
 
 // Spends at most so many units, and prints the numbers that had them, then the one that is named next.
-fn serve<Q: Queue>(rt: &LibcRuntime, queue: &mut Q, most: u32) -> io::Result<()> {
-    print!(rt, "serve")?;
+fn serve<Q: Queue>(rt: &HostRuntime, queue: &mut Q, most: u32) -> io::Result<()> {
+    print!(rt; "serve")?;
     for _ in 0..most {
         if let Some(number) = queue.spend() {
-            print!(rt, " {number}")?;
+            print!(rt; " {number}")?;
         }
     }
     match queue.name() {
-        Some(number) => println!(rt, ", next {number}"),
-        None => println!(rt, ", nothing waits"),
+        Some(number) => println!(rt; ", next {number}"),
+        None => println!(rt; ", nothing waits"),
     }
 }
 
 // 6 for 2 units goes before 3 for 3 by worth.
-fn rated<Q: Queue + Drop>(rt: &LibcRuntime, mut queue: Q) -> io::Result<()> {
+fn rated<Q: Queue + Drop>(rt: &HostRuntime, mut queue: Q) -> io::Result<()> {
     put_all(rt, &mut queue, &[errand(1, 3, 3), errand(2, 2, 6)])?;
     serve(rt, &mut queue, 6)
 }
 
 // Of equals the first put is first. What is spent on an errand does not change its rating.
-fn tied<Q: Queue + Drop>(rt: &LibcRuntime, mut queue: Q) -> io::Result<()> {
+fn tied<Q: Queue + Drop>(rt: &HostRuntime, mut queue: Q) -> io::Result<()> {
     put_all(rt, &mut queue, &[errand(1, 2, 2), errand(2, 1, 1)])?;
     serve(rt, &mut queue, 1)?;
     put_all(rt, &mut queue, &[errand(3, 4, 4), errand(4, 1, 2)])?;
@@ -75,7 +71,7 @@ fn tied<Q: Queue + Drop>(rt: &LibcRuntime, mut queue: Q) -> io::Result<()> {
 }
 
 // The middle one leaves; a number that does not wait is refused.
-fn taken<Q: Queue + Drop>(rt: &LibcRuntime, mut queue: Q) -> io::Result<()> {
+fn taken<Q: Queue + Drop>(rt: &HostRuntime, mut queue: Q) -> io::Result<()> {
     put_all(
         rt,
         &mut queue,
@@ -87,7 +83,7 @@ fn taken<Q: Queue + Drop>(rt: &LibcRuntime, mut queue: Q) -> io::Result<()> {
 }
 
 // The refusals, the smallest number first.
-fn refused<Q: Queue + Drop>(rt: &LibcRuntime, mut queue: Q) -> io::Result<()> {
+fn refused<Q: Queue + Drop>(rt: &HostRuntime, mut queue: Q) -> io::Result<()> {
     put_all(
         rt,
         &mut queue,
@@ -111,33 +107,33 @@ fn refused<Q: Queue + Drop>(rt: &LibcRuntime, mut queue: Q) -> io::Result<()> {
 }
 
 // How many of 1,030 errands find a place.
-fn filled<Q: Queue + Drop>(rt: &LibcRuntime, mut queue: Q) -> io::Result<()> {
+fn filled<Q: Queue + Drop>(rt: &HostRuntime, mut queue: Q) -> io::Result<()> {
     let mut places = 0u32;
     for number in 0..1030 {
         if queue.put(errand(number, 1, 1)).is_ok() {
             places = places.saturating_add(1);
         }
     }
-    println!(rt, "places {places}")
+    println!(rt; "places {places}")
 }
 
-fn first_come(rt: &LibcRuntime) -> io::Result<()> {
+fn first_come(rt: &HostRuntime) -> io::Result<()> {
     let mut slots = [Slot::free(); 8];
-    println!(rt, "first come")?;
+    println!(rt; "first come")?;
     rated(rt, FirstCome::new(&mut slots))?;
     tied(rt, FirstCome::new(&mut slots))?;
     taken(rt, FirstCome::new(&mut slots))
 }
 
-fn by_worth(rt: &LibcRuntime) -> io::Result<()> {
+fn by_worth(rt: &HostRuntime) -> io::Result<()> {
     let mut slots = [Slot::free(); 8];
-    println!(rt, "by worth")?;
+    println!(rt; "by worth")?;
     rated(rt, ByWorth::new(&mut slots))?;
     tied(rt, ByWorth::new(&mut slots))?;
     taken(rt, ByWorth::new(&mut slots))
 }
 
-fn full(rt: &LibcRuntime) -> io::Result<()> {
+fn full(rt: &HostRuntime) -> io::Result<()> {
     let mut few = [Slot::free(); 2];
     refused(rt, FirstCome::new(&mut few))?;
     filled(rt, ByWorth::new(&mut few))?;
@@ -146,7 +142,7 @@ fn full(rt: &LibcRuntime) -> io::Result<()> {
     filled(rt, FirstCome::new(&mut many))
 }
 
-fn main(rt: LibcRuntime) -> io::Result<()> {
+fn main(rt: HostRuntime) -> io::Result<()> {
     first_come(&rt)?;
     by_worth(&rt)?;
     full(&rt)

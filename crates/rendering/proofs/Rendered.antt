@@ -1,87 +1,79 @@
 -- A text that grows line by line.
-use Prim.Native.Nat.{ℕ, _+_, _-_, _<_, _≤_}
-use mathlib.Core.Path.{_≡_, sym, ap, _∙_}
-use mathlib.Core.List.{List, _++_}
-use native.Mathlib.Numerals.{add-one}
-use native.Mathlib.Omega.{arith}
-use lib.ListN.{length, getD, drop}
-use Rattle·std.proofs.shelf.Lists.{append-assoc, append-nil, at-drop-all, at-drop-more}
-use Rattle·std.specs.Options.{valueOr}
-use Rattle·std.specs.declared.option.Option.{Option}
-use Rattle·std.specs.declared.option.Option.the-variants.{Some}
-use Rattle·dispatcher.specs.Scripts.{trace-of}
-use Rattle·dispatcher.specs.declared.entries.Entry.{Entry}
-use Rattle·model.specs.Runs.{Trace, anyone, of-tick, total}
-use Rattle·model.specs.Table.{response}
-use Rattle·model.specs.Totals.{total-accepted, total-served, total-withdrawn}
-use Rattle·model.specs.declared.calls.Answer.{Answer}
-use Rattle·model.specs.declared.calls.Answer.the-variants.{Accepted, Withdrawn, Slack, Ticked, Refused}
-use Rattle·model.specs.declared.calls.Call.{Call}
-use Rattle·model.specs.declared.calls.Call.the-variants.{Release}
-use Rattle·model.specs.declared.duties.Duty.{Duty}
-use Rattle·rendering·specs.Lines.{duty-line, event-line, totals-line}
-use Rattle·rendering·specs.Renderings.{duty-lines, event-lines, left-over, run-lines}
+use Rattle.std.proofs.Common.{◌≡◌, ℕ, ◌+◌, ◌-◌, ◌<◌, ◌≤◌, List, ◌++◌, length, get_or, drop, Some, Option, unwrap_or, sym, ap, ◌∙◌, add-one, arith}
+use Rattle.std.proofs.lemmas.List.{append_assoc, append-nil, at_drop_all, at_drop_more}
+use Rattle.dispatcher.specs.Scripts.{trace_of}
+use Rattle.dispatcher.specs.declared.entries.Entry.{Entry}
+use Rattle.model.specs.Runs.{Trace, anyone, of_tick, total}
+use Rattle.model.specs.Table.{response}
+use Rattle.model.specs.Totals.{total_accepted, total_served, total_withdrawn}
+use Rattle.model.specs.declared.calls.Answer.{Answer}
+use Rattle.model.specs.declared.calls.Answer.TheVariants.{Accepted, Withdrawn, Slack, Ticked, Refused}
+use Rattle.model.specs.declared.calls.Call.{Call}
+use Rattle.model.specs.declared.calls.Call.TheVariants.{Release}
+use Rattle.model.specs.declared.duties.Duty.{Duty}
+use Rattle.rendering.specs.Lines.{duty_line, event_line, totals_line}
+use Rattle.rendering.specs.Renderings.{duty_lines, event_lines, left_over, run_lines}
 
 -- One row more.
-pub duty-more : (table : List Duty) (row w : ℕ) (start before after : List ℕ)
+pub duty_more : (table : List Duty) (row w : ℕ) (start before after : List ℕ)
     → response table row ≡ Some w
-    → before ≡ start ++ duty-lines table row
-    → after ≡ before ++ duty-line row w
-    → after ≡ start ++ duty-lines table (row + 1)
-duty-more table row w start before after responds so-far wrote =
+    → before ≡ start ++ duty_lines table row
+    → after ≡ before ++ duty_line row w
+    → after ≡ start ++ duty_lines table (row + 1)
+duty_more table row w start before after responds so_far wrote =
     wrote
-    ∙ ap (λ (bs : List ℕ). bs ++ duty-line row w) so-far
-    ∙ append-assoc start (duty-lines table row) (duty-line row w)
-    ∙ ap (λ (o : Option ℕ). start ++ (duty-lines table row ++ duty-line row (valueOr o 0))) (sym responds)
-    ∙ ap (λ (n : ℕ). start ++ duty-lines table n) (sym (add-one row))
+    ∙ ap (λ (bs : List ℕ). bs ++ duty_line row w) so_far
+    ∙ append_assoc start (duty_lines table row) (duty_line row w)
+    ∙ ap (λ (o : Option ℕ). start ++ (duty_lines table row ++ duty_line row (unwrap_or o 0))) (sym responds)
+    ∙ ap (λ (n : ℕ). start ++ duty_lines table n) (sym (add-one row))
 
 -- A call moves the clock by at most one.
-pub at-most-one : (a : Answer) → of-tick anyone a ≤ 1
-at-most-one Accepted = omega arith
-at-most-one (Withdrawn units) = omega arith
-at-most-one (Slack k) = omega arith
-at-most-one (Ticked slack who) = omega arith
-at-most-one (Refused why) = omega arith
+pub at_most_one : (a : Answer) → of_tick anyone a ≤ 1
+at_most_one Accepted = omega arith
+at_most_one (Withdrawn units) = omega arith
+at_most_one (Slack k) = omega arith
+at_most_one (Ticked slack who) = omega arith
+at_most_one (Refused why) = omega arith
 
-abbrev pub no-entry : Entry
-no-entry = record { call = Release 0; answer = Accepted }
+abbrev pub no_entry : Entry
+no_entry = record { call = Release 0; answer = Accepted }
 
 module _ (script : List Entry) (i : ℕ) where
   -- What happens from an entry on, and behind the last.
-  pub events-more : (clock : ℕ) → i < length script
-      → event-lines clock (trace-of (drop i script))
-      ≡ event-line clock (getD script i no-entry .call) (getD script i no-entry .answer)
-      ++ event-lines (clock + of-tick anyone (getD script i no-entry .answer)) (trace-of (drop (i + 1) script))
-  events-more clock short = at-drop-more (λ (es : List Entry). event-lines clock (trace-of es)) script i no-entry short
+  pub events_more : (clock : ℕ) → i < length script
+      → event_lines clock (trace_of (drop i script))
+      ≡ event_line clock (get_or script i no_entry).call (get_or script i no_entry).answer
+      ++ event_lines (clock + of_tick anyone (get_or script i no_entry).answer) (trace_of (drop (i + 1) script))
+  events_more clock short = at_drop_more (λ (es : List Entry). event_lines clock (trace_of es)) script i no_entry short
 
-  pub events-all : (clock : ℕ) (before whole : List ℕ) → length script ≤ i
-      → before ++ event-lines clock (trace-of (drop i script)) ≡ whole → before ≡ whole
-  events-all clock before whole long all =
+  pub events_all : (clock : ℕ) (before whole : List ℕ) → length script ≤ i
+      → before ++ event_lines clock (trace_of (drop i script)) ≡ whole → before ≡ whole
+  events_all clock before whole long all =
       sym (append-nil before)
-      ∙ ap (λ (bs : List ℕ). before ++ bs) (sym (at-drop-all (λ (es : List Entry). event-lines clock (trace-of es)) script i long))
+      ∙ ap (λ (bs : List ℕ). before ++ bs) (sym (at_drop_all (λ (es : List Entry). event_lines clock (trace_of es)) script i long))
       ∙ all
 
   -- A total from an entry on, and behind the last.
-  pub total-more : (f : Call → Answer → ℕ) → i < length script
-      → total f (trace-of (drop i script))
-      ≡ f (getD script i no-entry .call) (getD script i no-entry .answer) + total f (trace-of (drop (i + 1) script))
-  total-more f short = at-drop-more (λ (es : List Entry). total f (trace-of es)) script i no-entry short
+  pub total_more : (f : Call → Answer → ℕ) → i < length script
+      → total f (trace_of (drop i script))
+      ≡ f (get_or script i no_entry).call (get_or script i no_entry).answer + total f (trace_of (drop (i + 1) script))
+  total_more f short = at_drop_more (λ (es : List Entry). total f (trace_of es)) script i no_entry short
 
-  pub total-all : (f : Call → Answer → ℕ) → length script ≤ i → total f (trace-of (drop i script)) ≡ 0
-  total-all f long = at-drop-all (λ (es : List Entry). total f (trace-of es)) script i long
+  pub total_all : (f : Call → Answer → ℕ) → length script ≤ i → total f (trace_of (drop i script)) ≡ 0
+  total_all f long = at_drop_all (λ (es : List Entry). total f (trace_of es)) script i long
 
 -- The totals behind what happened.
-pub totals-behind : (trace : Trace) (accepted served withdrawn waiting : ℕ) (start middle end : List ℕ)
-    → accepted ≡ total-accepted trace
-    → served ≡ total-served trace
-    → withdrawn ≡ total-withdrawn trace
+pub totals_behind : (trace : Trace) (accepted served withdrawn waiting : ℕ) (start middle end : List ℕ)
+    → accepted ≡ total_accepted trace
+    → served ≡ total_served trace
+    → withdrawn ≡ total_withdrawn trace
     → waiting ≡ accepted - served - withdrawn
-    → middle ≡ start ++ event-lines 0 trace
-    → end ≡ middle ++ totals-line accepted served withdrawn waiting
-    → end ≡ start ++ run-lines trace (left-over trace)
-totals-behind trace accepted served withdrawn waiting start middle end is-accepted is-served is-withdrawn is-waiting events totals =
-    let line : totals-line accepted served withdrawn waiting ≡ totals-line (total-accepted trace) (total-served trace) (total-withdrawn trace) (left-over trace) = cc in
+    → middle ≡ start ++ event_lines 0 trace
+    → end ≡ middle ++ totals_line accepted served withdrawn waiting
+    → end ≡ start ++ run_lines trace (left_over trace)
+totals_behind trace accepted served withdrawn waiting start middle end is-accepted is-served is-withdrawn is-waiting events totals =
+    let line : totals_line accepted served withdrawn waiting ≡ totals_line (total_accepted trace) (total_served trace) (total_withdrawn trace) (left_over trace) = cc in
     totals
-    ∙ ap (λ (bs : List ℕ). bs ++ totals-line accepted served withdrawn waiting) events
-    ∙ append-assoc start (event-lines 0 trace) (totals-line accepted served withdrawn waiting)
-    ∙ ap (λ (bs : List ℕ). start ++ (event-lines 0 trace ++ bs)) line
+    ∙ ap (λ (bs : List ℕ). bs ++ totals_line accepted served withdrawn waiting) events
+    ∙ append_assoc start (event_lines 0 trace) (totals_line accepted served withdrawn waiting)
+    ∙ ap (λ (bs : List ℕ). start ++ (event_lines 0 trace ++ bs)) line

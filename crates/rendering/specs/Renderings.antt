@@ -1,47 +1,44 @@
 -- A run as text: the response time of each row, then what happened, then the totals.
-use Prim.Native.Nat.{ℕ, zero, suc, _+_, _-_}
-use mathlib.Core.Bool.{cond}
-use mathlib.Core.List.{List, [], _∷_, _++_}
-use lib.ListN.{length}
-use Rattle·std.specs.Options.{valueOr}
-use Rattle·model.specs.Machine.{State}
-use Rattle·model.specs.Runs.{Trace, anyone, given-back, of-tick, was-accepted}
-use Rattle·model.specs.Table.{response}
-use Rattle·model.specs.Totals.{any-errand-had, asked, total-accepted, total-served, total-units, total-withdrawn}
-use Rattle·model.specs.declared.duties.Duty.{Duty}
-use Rattle·dispatcher.specs.declared.entries.Entry.{Entry}
-use Rattle·rendering·specs.Lines.{duty-line, event-line, totals-line}
+use Rattle.std.specs.Prelude.{ℕ, zero, suc, ◌+◌, ◌-◌, cond, List, [], ◌∷◌, ◌++◌, length}
+use Rattle.std.specs.Option.{unwrap_or}
+use Rattle.model.specs.Machine.{State}
+use Rattle.model.specs.Runs.{Trace, anyone, given_back, of_tick, was_accepted}
+use Rattle.model.specs.Table.{response}
+use Rattle.model.specs.Totals.{any_errand_had, asked, total_accepted, total_served, total_units, total_withdrawn}
+use Rattle.model.specs.declared.duties.Duty.{Duty}
+use Rattle.dispatcher.specs.declared.entries.Entry.{Entry}
+use Rattle.rendering.specs.Lines.{duty_line, event_line, totals_line}
 
 -- The response times of the first rows. Every row of an admitted table has one.
-abbrev pub duty-lines : List Duty → ℕ → List ℕ
-duty-lines table zero = []
-duty-lines table (suc rows) = duty-lines table rows ++ duty-line rows (valueOr (response table rows) 0)
+abbrev pub duty_lines : List Duty → ℕ → List ℕ
+duty_lines table zero = []
+duty_lines table (suc rows) = duty_lines table rows ++ duty_line rows (unwrap_or (response table rows) 0)
 
 -- What happened from a clock on. Each accepted tick moves the clock by one.
-abbrev pub event-lines : ℕ → Trace → List ℕ
-event-lines clock [] = []
-event-lines clock (x ∷ xs) = event-line clock (x .0) (x .1) ++ event-lines (clock + of-tick anyone (x .1)) xs
+abbrev pub event_lines : ℕ → Trace → List ℕ
+event_lines clock [] = []
+event_lines clock (x ∷ xs) = event_line clock x.0 x.1 ++ event_lines (clock + of_tick anyone x.1) xs
 
 -- What happened in a run, and its totals, of which the last is what waits.
-abbrev pub run-lines : Trace → ℕ → List ℕ
-run-lines trace waiting =
-    event-lines 0 trace ++ totals-line (total-accepted trace) (total-served trace) (total-withdrawn trace) waiting
+abbrev pub run_lines : Trace → ℕ → List ℕ
+run_lines trace waiting =
+    event_lines 0 trace ++ totals_line (total_accepted trace) (total_served trace) (total_withdrawn trace) waiting
 
 -- The whole text of a run over a table. What waits is counted in the queue at the end.
 abbrev pub rendered : List Duty → Trace → State → List ℕ
 rendered table trace end =
-    duty-lines table (length table) ++ run-lines trace (total-units (end .queue .waiting))
+    duty_lines table (length table) ++ run_lines trace (total_units end.queue.waiting)
 
 -- What was accepted, and neither served nor withdrawn.
-abbrev pub left-over : Trace → ℕ
-left-over trace = total-accepted trace - total-served trace - total-withdrawn trace
+abbrev pub left_over : Trace → ℕ
+left_over trace = total_accepted trace - total_served trace - total_withdrawn trace
 
 -- What one entry of a script adds to each total.
-abbrev pub accepted-by : Entry → ℕ
-accepted-by e = cond (was-accepted (e .answer)) (asked (e .call)) 0
+abbrev pub accepted_by : Entry → ℕ
+accepted_by e = cond (was_accepted e.answer) (asked e.call) 0
 
-abbrev pub served-by : Entry → ℕ
-served-by e = of-tick any-errand-had (e .answer)
+abbrev pub served_by : Entry → ℕ
+served_by e = of_tick any_errand_had e.answer
 
-abbrev pub withdrawn-by : Entry → ℕ
-withdrawn-by e = given-back (e .answer)
+abbrev pub withdrawn_by : Entry → ℕ
+withdrawn_by e = given_back e.answer

@@ -1,4 +1,6 @@
 // The text of a run or of a fault, as bytes: fixed words and decimal numbers, line by line.
+#![tactic(auto)]
+
 mod events;
 mod lines;
 mod runs;

@@ -1,21 +1,15 @@
 // The lines of a transcript, each written behind what a text holds already.
-ghost use mathlib.Core.Path.{_≡_};
-ghost use mathlib.Core.List.{_++_};
-ghost use Rattle·std.specs.Of.Vec.{vec-items};
-ghost use Rattle·std.specs.Vec.{made};
-ghost use Rattle·rendering·specs.Lines.{behind-layer, behind-slack, call-word, duty-line, event-line, fault-line, layer-word, refused-line, tick-line, totals-line};
-use crate::words::write_number;
-use crate::words::write_word;
-use model::Answer;
-use model::Call;
-use model::Who;
+ghost use Rattle.std.specs.Prelude.{◌≡◌, ◌++◌, OnOk};
+ghost use Rattle.rendering.specs.Lines.{behind_layer, behind_slack, call_word, duty_line, event_line, fault_line, layer_word, refused_line, tick_line, totals_line};
+
+use crate::words::{write_number, write_word};
+use model::{Answer, Call, Who};
 use std::alloc::AllocError;
-use text::Fault;
-use text::Layer;
+use text::{Fault, Layer};
 
 // The response time of a row.
 pub(crate) fn write_duty(out: &mut Vec<u8>, row: u32, response: u32) -> Result<(), AllocError>
-    ensures { λ r. ⌜ made r (λ _. vec-items (now (out .exit)) ≡ vec-items (now (out .entry)) ++ duty-line row response) ⌝ }
+    ensures { OnOk result (out.new.items ≡ out.old.items ++ duty_line row response) }
 {
     write_word(out, b"(duty ")?;
     write_number(out, row as u128)?;
@@ -26,7 +20,7 @@ pub(crate) fn write_duty(out: &mut Vec<u8>, row: u32, response: u32) -> Result<(
 
 // The word of a call.
 fn call_word(call: Call) -> &'static [u8]
-    ensures { λ r. ⌜ now r ≡ call-word call ⌝ }
+    ensures { result.now ≡ call_word call }
 {
     match call {
         Call::Release(_) => b"release",
@@ -40,7 +34,7 @@ fn call_word(call: Call) -> &'static [u8]
 
 // A call that was refused.
 fn write_refused(out: &mut Vec<u8>, clock: u64, number: u32, call: Call) -> Result<(), AllocError>
-    ensures { λ r. ⌜ made r (λ _. vec-items (now (out .exit)) ≡ vec-items (now (out .entry)) ++ refused-line clock number call) ⌝ }
+    ensures { OnOk result (out.new.items ≡ out.old.items ++ refused_line clock number call) }
 {
     write_word(out, b"(refused ")?;
     write_number(out, clock as u128)?;
@@ -53,7 +47,7 @@ fn write_refused(out: &mut Vec<u8>, clock: u64, number: u32, call: Call) -> Resu
 
 // Who had a tick, and the end of its line.
 fn write_who(out: &mut Vec<u8>, who: Who) -> Result<(), AllocError>
-    ensures { λ r. ⌜ made r (λ _. vec-items (now (out .exit)) ≡ vec-items (now (out .entry)) ++ behind-slack who) ⌝ }
+    ensures { OnOk result (out.new.items ≡ out.old.items ++ behind_slack who) }
 {
     match who {
         Who::Nobody => write_word(out, b" nobody)\n"),
@@ -72,7 +66,7 @@ fn write_who(out: &mut Vec<u8>, who: Who) -> Result<(), AllocError>
 
 // A tick: the slack before it, and who had it.
 fn write_tick(out: &mut Vec<u8>, clock: u64, slack: u32, who: Who) -> Result<(), AllocError>
-    ensures { λ r. ⌜ made r (λ _. vec-items (now (out .exit)) ≡ vec-items (now (out .entry)) ++ tick-line clock slack who) ⌝ }
+    ensures { OnOk result (out.new.items ≡ out.old.items ++ tick_line clock slack who) }
 {
     write_word(out, b"(tick ")?;
     write_number(out, clock as u128)?;
@@ -88,7 +82,7 @@ pub(crate) fn write_event(
     call: Call,
     answer: Answer,
 ) -> Result<(), AllocError>
-    ensures { λ r. ⌜ made r (λ _. vec-items (now (out .exit)) ≡ vec-items (now (out .entry)) ++ event-line clock call answer) ⌝ }
+    ensures { OnOk result (out.new.items ≡ out.old.items ++ event_line clock call answer) }
 {
     match answer {
         Answer::Ticked(slack, who) => write_tick(out, clock, slack, who),
@@ -105,7 +99,7 @@ pub(crate) fn write_totals(
     withdrawn: u128,
     waiting: u128,
 ) -> Result<(), AllocError>
-    ensures { λ r. ⌜ made r (λ _. vec-items (now (out .exit)) ≡ vec-items (now (out .entry)) ++ totals-line accepted served withdrawn waiting) ⌝ }
+    ensures { OnOk result (out.new.items ≡ out.old.items ++ totals_line accepted served withdrawn waiting) }
 {
     write_word(out, b"(totals ")?;
     write_number(out, accepted)?;
@@ -119,7 +113,7 @@ pub(crate) fn write_totals(
 }
 
 fn layer_word(layer: Layer) -> &'static [u8]
-    ensures { λ r. ⌜ now r ≡ layer-word layer ⌝ }
+    ensures { result.now ≡ layer_word layer }
 {
     match layer {
         Layer::Letters => b"letters",
@@ -131,7 +125,7 @@ fn layer_word(layer: Layer) -> &'static [u8]
 
 // The row of a fault, if it has one, and the end of its line.
 fn write_row(out: &mut Vec<u8>, row: Option<u32>) -> Result<(), AllocError>
-    ensures { λ r. ⌜ made r (λ _. vec-items (now (out .exit)) ≡ vec-items (now (out .entry)) ++ behind-layer row) ⌝ }
+    ensures { OnOk result (out.new.items ≡ out.old.items ++ behind_layer row) }
 {
     match row {
         None => write_word(out, b")\n"),
@@ -145,7 +139,7 @@ fn write_row(out: &mut Vec<u8>, row: Option<u32>) -> Result<(), AllocError>
 
 // The one line of a text that is no sheet.
 pub fn write_fault(out: &mut Vec<u8>, fault: Fault) -> Result<(), AllocError>
-    ensures { λ r. ⌜ made r (λ _. vec-items (now (out .exit)) ≡ vec-items (now (out .entry)) ++ fault-line fault) ⌝ }
+    ensures { OnOk result (out.new.items ≡ out.old.items ++ fault_line fault) }
 {
     write_word(out, b"(fault ")?;
     write_number(out, fault.number as u128)?;

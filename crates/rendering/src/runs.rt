@@ -1,10 +1,8 @@
 // What happened in a run, and its totals.
-ghost use mathlib.Core.Path.{_≡_};
-ghost use mathlib.Core.List.{_++_};
-ghost use Rattle·std.specs.Of.Vec.{vec-items};
-ghost use Rattle·std.specs.Vec.{made};
-ghost use Rattle·dispatcher.specs.Scripts.{trace-of};
-ghost use Rattle·rendering·specs.Renderings.{left-over, run-lines};
+ghost use Rattle.std.specs.Prelude.{◌≡◌, ◌++◌, OnOk};
+ghost use Rattle.dispatcher.specs.Scripts.{trace_of};
+ghost use Rattle.rendering.specs.Renderings.{left_over, run_lines};
+
 use crate::events::write_events;
 use crate::lines::write_totals;
 use crate::totals::Totals;
@@ -12,7 +10,7 @@ use dispatcher::Entry;
 use std::alloc::AllocError;
 
 pub fn write_run(out: &mut Vec<u8>, script: &[Entry]) -> Result<(), AllocError>
-    ensures { λ r. ⌜ made r (λ _. vec-items (now (out .exit)) ≡ vec-items (now (out .entry)) ++ run-lines (trace-of (now (script .entry))) (left-over (trace-of (now (script .entry))))) ⌝ }
+    ensures { OnOk result (out.new.items ≡ out.old.items ++ run_lines (trace_of script.now) (left_over (trace_of script.now))) }
 {
     write_events(out, script)?;
     let totals = Totals::of(script);

@@ -1,13 +1,11 @@
 // What a run took in and gave out over all its errands.
-ghost use mathlib.Core.Path.{_≡_};
-ghost use Prim.Native.Nat.{_-_};
-ghost use Rattle·dispatcher.specs.Scripts.{trace-of};
-ghost use Rattle·model.specs.Totals.{total-accepted, total-served, total-withdrawn};
-ghost use Rattle·rendering·specs.Renderings.{accepted-by, served-by, withdrawn-by};
+ghost use Rattle.std.specs.Prelude.{◌≡◌, ◌-◌};
+ghost use Rattle.dispatcher.specs.Scripts.{trace_of};
+ghost use Rattle.model.specs.Totals.{total_accepted, total_served, total_withdrawn};
+ghost use Rattle.rendering.specs.Renderings.{accepted_by, served_by, withdrawn_by};
+
 use dispatcher::Entry;
-use model::Answer;
-use model::Call;
-use model::Who;
+use model::{Answer, Call, Who};
 
 // Units of accepted requests, ticks that errands had, and units that withdraws gave back. The sums are wide enough for
 // every script.
@@ -19,7 +17,7 @@ pub(crate) struct Totals {
 }
 
 fn accepted_by(entry: &Entry) -> u32
-    ensures { λ r. ⌜ r ≡ accepted-by (now (entry .entry)) ⌝ }
+    ensures { result ≡ accepted_by entry.now }
 {
     match (entry.answer, entry.call) {
         (Answer::Accepted, Call::Request(errand)) => errand.units,
@@ -28,7 +26,7 @@ fn accepted_by(entry: &Entry) -> u32
 }
 
 fn served_by(entry: &Entry) -> u32
-    ensures { λ r. ⌜ r ≡ served-by (now (entry .entry)) ⌝ }
+    ensures { result ≡ served_by entry.now }
 {
     match entry.answer {
         Answer::Ticked(_, Who::Errand(_)) => 1,
@@ -37,7 +35,7 @@ fn served_by(entry: &Entry) -> u32
 }
 
 fn withdrawn_by(entry: &Entry) -> u32
-    ensures { λ r. ⌜ r ≡ withdrawn-by (now (entry .entry)) ⌝ }
+    ensures { result ≡ withdrawn_by entry.now }
 {
     match entry.answer {
         Answer::Withdrawn(units) => units,
@@ -48,9 +46,9 @@ fn withdrawn_by(entry: &Entry) -> u32
 impl Totals {
     // The totals of a script that was run.
     pub(crate) fn of(script: &[Entry]) -> Totals
-        ensures accepted { λ r. ⌜ r .accepted ≡ total-accepted (trace-of (now (script .entry))) ⌝ }
-        ensures served { λ r. ⌜ r .served ≡ total-served (trace-of (now (script .entry))) ⌝ }
-        ensures withdrawn { λ r. ⌜ r .withdrawn ≡ total-withdrawn (trace-of (now (script .entry))) ⌝ }
+        ensures accepted { result.accepted ≡ total_accepted (trace_of script.now) }
+        ensures served { result.served ≡ total_served (trace_of script.now) }
+        ensures withdrawn { result.withdrawn ≡ total_withdrawn (trace_of script.now) }
     {
         let mut accepted = 0;
         let mut served = 0;
@@ -69,7 +67,7 @@ impl Totals {
 
     // What waits in the end: what was accepted, and neither served nor withdrawn.
     pub(crate) fn waiting(&self) -> u128
-        ensures { λ r. ⌜ r ≡ now (self .entry) .accepted - now (self .entry) .served - now (self .entry) .withdrawn ⌝ }
+        ensures { result ≡ self.now.accepted - self.now.served - self.now.withdrawn }
     {
         self.accepted
             .saturating_sub(self.served)

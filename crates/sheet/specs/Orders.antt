@@ -1,139 +1,131 @@
 -- The order of lines, and what each line does to the sheet as far as it is read. The faults of the layers sheet and
 -- table.
-use Prim.Native.Nat.{ℕ, _+_}
-use mathlib.Core.Bool.{Bool, true, false}
-use mathlib.Core.List.{List, [], _∷_, _++_}
-use lib.Dec.{ltb}
-use lib.ListN.{length, take}
-use Rattle·std.specs.declared.option.Option.{Option}
-use Rattle·std.specs.declared.option.Option.the-variants.{Some, None}
-use Rattle·std.specs.declared.result.Result.{Result}
-use Rattle·std.specs.declared.result.Result.the-variants.{Ok, Err}
-use Rattle·model.specs.Table.{add-refusal, after-add}
-use Rattle·model.specs.declared.duties.Duty.{Duty}
-use Rattle·table.specs.Settings.{table-of}
-use Rattle·text.specs.Faults.{fault, judged, unless}
-use Rattle·sheet·specs.Told.{table-fault}
-use Rattle·text.specs.Lines.{Line}
-use Rattle·forms.specs.Sayings.{forms-faults, letters-faults, says}
-use Rattle·sheet·specs.declared.drafts.Draft.{Draft}
-use Rattle·sheet·specs.declared.drafts.Stage.{Stage}
-use Rattle·sheet·specs.declared.drafts.Stage.the-variants.{Start, Duties, Ats, Over}
-use Rattle·text.specs.declared.faults.Fault.{Fault}
-use Rattle·text.specs.declared.faults.Layer.the-variants.{Sheet as Sheet-layer}
-use Rattle·text.specs.declared.faults.Place.{Place}
-use Rattle·sheet·specs.declared.ats.At.{At as At-line}
-use Rattle·forms.specs.declared.sayings.QueueName.{QueueName}
-use Rattle·forms.specs.declared.sayings.QueueName.the-variants.{First}
-use Rattle·forms.specs.declared.sayings.Said.{Said}
-use Rattle·forms.specs.declared.sayings.Said.the-variants.{Sheet, Duty as Add-duty, Queue, At, End, Remark}
+use Rattle.std.specs.Prelude.{ℕ, ◌+◌, Bool, true, false, List, [], ◌∷◌, ◌++◌, length, take, Some, None, Ok, Err, Option, Result, nat_lt}
+use Rattle.model.specs.Table.{add_refusal, after_add}
+use Rattle.model.specs.declared.duties.Duty.{Duty}
+use Rattle.table.specs.Settings.{table_of}
+use Rattle.text.specs.Faults.{fault, judged, unless}
+use Rattle.sheet.specs.Told.{table_fault}
+use Rattle.text.specs.Lines.{Line}
+use Rattle.forms.specs.Sayings.{forms_faults, letters_faults, says}
+use Rattle.sheet.specs.declared.drafts.Draft.{Draft}
+use Rattle.sheet.specs.declared.drafts.Stage.{Stage}
+use Rattle.sheet.specs.declared.drafts.Stage.TheVariants.{Start, Duties, Ats, Over}
+use Rattle.text.specs.declared.faults.Fault.{Fault}
+use Rattle.text.specs.declared.faults.Layer.TheVariants.{Sheet as SheetLayer}
+use Rattle.text.specs.declared.faults.Place.{Place}
+use Rattle.sheet.specs.declared.ats.At.{At as AtLine}
+use Rattle.forms.specs.declared.sayings.QueueName.{QueueName}
+use Rattle.forms.specs.declared.sayings.QueueName.TheVariants.{First}
+use Rattle.forms.specs.declared.sayings.Said.{Said}
+use Rattle.forms.specs.declared.sayings.Said.TheVariants.{Sheet, Duty as AddDuty, Queue, At, End, Remark}
 
 -- A sheet as far as it is read: how far its lines have come, and what they have set.
-pub record So-far : Type 0 where
+pub record SoFar : Type 0 where
   pub stage : Stage
   pub table : List Duty
   pub queue : QueueName
-  pub ats : List At-line
+  pub ats : List AtLine
   pub ticks : ℕ
 
-abbrev pub nothing-read : So-far
-nothing-read = record { stage = Start; table = []; queue = First; ats = []; ticks = 0 }
+abbrev pub nothing_read : SoFar
+nothing_read = record { stage = Start; table = []; queue = First; ats = []; ticks = 0 }
 
-abbrev pub so-far : Draft → So-far
-so-far d =
-    record { stage = d .stage; table = table-of (d .setting); queue = d .queue; ats = take (d .count) (d .ats); ticks = d .ticks }
+abbrev pub so_far : Draft → SoFar
+so_far d =
+    record { stage = d.stage; table = table_of d.setting; queue = d.queue; ats = take d.count d.ats; ticks = d.ticks }
 
 -- Which lines may come: first the sheet line; then duties and a queue line; then at-lines and an end line; and remarks
 -- anywhere after the first line.
-abbrev pub in-order : Stage → Said → Bool
-in-order Start said =
-    elim said [ Sheet ↦ true | Add-duty p d ↦ false | Queue q ↦ false | At c ↦ false | End n ↦ false | Remark ↦ false ]
-in-order Duties said =
-    elim said [ Sheet ↦ false | Add-duty p d ↦ true | Queue q ↦ true | At c ↦ false | End n ↦ false | Remark ↦ true ]
-in-order Ats said =
-    elim said [ Sheet ↦ false | Add-duty p d ↦ false | Queue q ↦ false | At c ↦ true | End n ↦ true | Remark ↦ true ]
-in-order Over said =
-    elim said [ Sheet ↦ false | Add-duty p d ↦ false | Queue q ↦ false | At c ↦ false | End n ↦ false | Remark ↦ true ]
+abbrev pub in_order : Stage → Said → Bool
+in_order Start said =
+    elim said [ Sheet ↦ true | AddDuty p d ↦ false | Queue q ↦ false | At c ↦ false | End n ↦ false | Remark ↦ false ]
+in_order Duties said =
+    elim said [ Sheet ↦ false | AddDuty p d ↦ true | Queue q ↦ true | At c ↦ false | End n ↦ false | Remark ↦ true ]
+in_order Ats said =
+    elim said [ Sheet ↦ false | AddDuty p d ↦ false | Queue q ↦ false | At c ↦ true | End n ↦ true | Remark ↦ true ]
+in_order Over said =
+    elim said [ Sheet ↦ false | AddDuty p d ↦ false | Queue q ↦ false | At c ↦ false | End n ↦ false | Remark ↦ true ]
 
 -- There is room for what the line says: at most 256 at-lines.
-abbrev pub has-room : List At-line → Said → Bool
-has-room ats Sheet = true
-has-room ats (Add-duty place d) = true
-has-room ats (Queue name) = true
-has-room ats (At clock) = ltb (length ats) 256
-has-room ats (End ticks) = true
-has-room ats Remark = true
+abbrev pub has_room : List AtLine → Said → Bool
+has_room ats Sheet = true
+has_room ats (AddDuty place d) = true
+has_room ats (Queue name) = true
+has_room ats (At clock) = nat_lt (length ats) 256
+has_room ats (End ticks) = true
+has_room ats Remark = true
 
 -- What the table says to a duty: its refusal, or nothing.
-abbrev pub refused-at : Place → List ℕ → Option Fault
-refused-at p [] = None
-refused-at p (number ∷ values) = Some (table-fault p (number ∷ values))
+abbrev pub refused_at : Place → List ℕ → Option Fault
+refused_at p [] = None
+refused_at p (number ∷ values) = Some (table_fault p (number ∷ values))
 
-abbrev pub table-says : List Duty → Place → Said → Option Fault
-table-says table p Sheet = None
-table-says table p (Add-duty place d) = refused-at p (add-refusal table place d)
-table-says table p (Queue name) = None
-table-says table p (At clock) = None
-table-says table p (End ticks) = None
-table-says table p Remark = None
+abbrev pub table_says : List Duty → Place → Said → Option Fault
+table_says table p Sheet = None
+table_says table p (AddDuty place d) = refused_at p (add_refusal table place d)
+table_says table p (Queue name) = None
+table_says table p (At clock) = None
+table_says table p (End ticks) = None
+table_says table p Remark = None
 
 -- The faults of a line at its place in the sheet.
-abbrev pub fault-16 : So-far → Line → Option Fault
-fault-16 s l = unless (in-order (s .stage) (says l)) (fault 16 Sheet-layer (l .place))
+abbrev pub fault_16 : SoFar → Line → Option Fault
+fault_16 s l = unless (in_order s.stage (says l)) (fault 16 SheetLayer l.place)
 
-abbrev pub fault-17 : So-far → Line → Option Fault
-fault-17 s l = unless (has-room (s .ats) (says l)) (fault 17 Sheet-layer (l .place))
+abbrev pub fault_17 : SoFar → Line → Option Fault
+fault_17 s l = unless (has_room s.ats (says l)) (fault 17 SheetLayer l.place)
 
-abbrev pub fault-of-table : So-far → Line → Option Fault
-fault-of-table s l = table-says (s .table) (l .place) (says l)
+abbrev pub fault_of_table : SoFar → Line → Option Fault
+fault_of_table s l = table_says s.table l.place (says l)
 
 -- Each layer's faults, in the order in which they count.
-abbrev pub sheet-faults : So-far → Line → List (Option Fault)
-sheet-faults s l = fault-16 s l ∷ fault-17 s l ∷ []
+abbrev pub sheet_faults : SoFar → Line → List (Option Fault)
+sheet_faults s l = fault_16 s l ∷ fault_17 s l ∷ []
 
-abbrev pub table-faults : So-far → Line → List (Option Fault)
-table-faults s l = fault-of-table s l ∷ []
+abbrev pub table_faults : SoFar → Line → List (Option Fault)
+table_faults s l = fault_of_table s l ∷ []
 
 -- The at-line that a line is, with its clock.
-abbrev pub at-line : ℕ → Line → At-line
-at-line clock l =
-    record { clock = clock; line = l .place .line; start = l .place .byte; end = l .place .byte + length (l .bytes) }
+abbrev pub at_line : ℕ → Line → AtLine
+at_line clock l =
+    record { clock = clock; line = l.place.line; start = l.place.byte; end = l.place.byte + length l.bytes }
 
 -- What a line adds.
-abbrev pub with-said : So-far → Line → Said → So-far
-with-said s l Sheet = record { stage = Duties; table = s .table; queue = s .queue; ats = s .ats; ticks = s .ticks }
-with-said s l (Add-duty place d) =
-    record { stage = s .stage; table = after-add (s .table) place d; queue = s .queue; ats = s .ats; ticks = s .ticks }
-with-said s l (Queue name) = record { stage = Ats; table = s .table; queue = name; ats = s .ats; ticks = s .ticks }
-with-said s l (At clock) =
-    record { stage = s .stage; table = s .table; queue = s .queue; ats = s .ats ++ (at-line clock l ∷ []); ticks = s .ticks }
-with-said s l (End ticks) = record { stage = Over; table = s .table; queue = s .queue; ats = s .ats; ticks = ticks }
-with-said s l Remark = s
+abbrev pub with_said : SoFar → Line → Said → SoFar
+with_said s l Sheet = record { stage = Duties; table = s.table; queue = s.queue; ats = s.ats; ticks = s.ticks }
+with_said s l (AddDuty place d) =
+    record { stage = s.stage; table = after_add s.table place d; queue = s.queue; ats = s.ats; ticks = s.ticks }
+with_said s l (Queue name) = record { stage = Ats; table = s.table; queue = name; ats = s.ats; ticks = s.ticks }
+with_said s l (At clock) =
+    record { stage = s.stage; table = s.table; queue = s.queue; ats = s.ats ++ (at_line clock l ∷ []); ticks = s.ticks }
+with_said s l (End ticks) = record { stage = Over; table = s.table; queue = s.queue; ats = s.ats; ticks = ticks }
+with_said s l Remark = s
 
 -- What a line says at its place in the sheet, or the first fault of its letters, its form or its order.
-abbrev pub order-judged : So-far → Line → Result Said Fault
-order-judged s l = judged (letters-faults l ++ forms-faults l ++ sheet-faults s l) (says l)
+abbrev pub order_judged : SoFar → Line → Result Said Fault
+order_judged s l = judged (letters_faults l ++ forms_faults l ++ sheet_faults s l) (says l)
 
 -- What the table makes of what a line in its place says; and of a duty.
-abbrev pub said-judged : So-far → Line → Said → Result So-far Fault
-said-judged s l said = judged (table-says (s .table) (l .place) said ∷ []) (with-said s l said)
+abbrev pub said_judged : SoFar → Line → Said → Result SoFar Fault
+said_judged s l said = judged (table_says s.table l.place said ∷ []) (with_said s l said)
 
-abbrev pub duty-judged : So-far → Place → ℕ → Duty → Result So-far Fault
-duty-judged s at place d =
-    judged (refused-at at (add-refusal (s .table) place d) ∷ [])
-    (record { stage = s .stage; table = after-add (s .table) place d; queue = s .queue; ats = s .ats; ticks = s .ticks })
+abbrev pub duty_judged : SoFar → Place → ℕ → Duty → Result SoFar Fault
+duty_judged s at place d =
+    judged (refused_at at (add_refusal s.table place d) ∷ [])
+    (record { stage = s.stage; table = after_add s.table place d; queue = s.queue; ats = s.ats; ticks = s.ticks })
 
 -- A line at its place in the sheet: the first layer in which it is faulty counts, and in that layer the smallest number.
-abbrev pub line-judged : So-far → Line → Result So-far Fault
-line-judged s l =
-    judged (letters-faults l ++ forms-faults l ++ sheet-faults s l ++ table-faults s l) (with-said s l (says l))
+abbrev pub line_judged : SoFar → Line → Result SoFar Fault
+line_judged s l =
+    judged (letters_faults l ++ forms_faults l ++ sheet_faults s l ++ table_faults s l) (with_said s l (says l))
 
 -- The lines from first to last: the first faulty one counts.
-abbrev pub lines-judged : So-far → List Line → Result So-far Fault
-lines-judged s [] = Ok s
-lines-judged s (l ∷ ls) = elim (line-judged s l) [ Ok t ↦ lines-judged t ls | Err f ↦ Err f ]
+abbrev pub lines_judged : SoFar → List Line → Result SoFar Fault
+lines_judged s [] = Ok s
+lines_judged s (l ∷ ls) = elim (line_judged s l) [ Ok t ↦ lines_judged t ls | Err f ↦ Err f ]
 
 -- What reading a line left, or the fault that it gave.
-abbrev pub left-with : {X E : Type 0} → (E → Fault) → Result X E → So-far → Result So-far Fault
-left-with tells (Ok x) s = Ok s
-left-with tells (Err e) s = Err (tells e)
+abbrev pub left_with : {X E : Type 0} → (E → Fault) → Result X E → SoFar → Result SoFar Fault
+left_with tells (Ok x) s = Ok s
+left_with tells (Err e) s = Err (tells e)

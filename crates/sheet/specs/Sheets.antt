@@ -1,37 +1,29 @@
 -- Which sheet a text is, or which fault it has.
-use Prim.Native.Nat.{ℕ, _+_}
-use mathlib.Core.Bool.{Bool, true, false, cond}
-use mathlib.Core.List.{List, [], _∷_}
-use lib.Dec.{leb, ltb}
-use lib.ListN.{length, take}
-use Rattle·std.specs.declared.option.Option.{Option}
-use Rattle·std.specs.declared.option.Option.the-variants.{Some, None}
-use Rattle·std.specs.declared.result.Result.{Result}
-use Rattle·std.specs.declared.result.Result.the-variants.{Ok, Err}
-use Rattle·model.specs.declared.duties.Duty.{Duty}
-use Rattle·table.specs.Settings.{table-of}
-use Rattle·text.specs.Faults.{fault, judged, unless}
-use Rattle·text.specs.Lines.{first-place, lines, lines-left}
-use Rattle·sheet·specs.Orders.{So-far, lines-judged, nothing-read}
-use Rattle·sheet·specs.declared.drafts.Sheet.{Sheet}
-use Rattle·sheet·specs.declared.drafts.Stage.{Stage}
-use Rattle·sheet·specs.declared.drafts.Stage.the-variants.{Start, Duties, Ats, Over}
-use Rattle·text.specs.declared.faults.Fault.{Fault}
-use Rattle·text.specs.declared.faults.Layer.the-variants.{Sheet as Sheet-layer}
-use Rattle·text.specs.declared.faults.Place.{Place}
-use Rattle·text.specs.declared.lines.Reader.{Reader}
-use Rattle·sheet·specs.declared.ats.At.{At as At-line}
-use Rattle·forms.specs.declared.sayings.QueueName.{QueueName}
+use Rattle.std.specs.Prelude.{ℕ, ◌+◌, Bool, true, false, cond, List, [], ◌∷◌, length, take, Some, None, Ok, Err, Option, Result, nat_le, nat_lt}
+use Rattle.model.specs.declared.duties.Duty.{Duty}
+use Rattle.table.specs.Settings.{table_of}
+use Rattle.text.specs.Faults.{fault, judged, unless}
+use Rattle.text.specs.Lines.{first_place, lines, lines_left}
+use Rattle.sheet.specs.Orders.{SoFar, lines_judged, nothing_read}
+use Rattle.sheet.specs.declared.drafts.Sheet.{Sheet}
+use Rattle.sheet.specs.declared.drafts.Stage.{Stage}
+use Rattle.sheet.specs.declared.drafts.Stage.TheVariants.{Start, Duties, Ats, Over}
+use Rattle.text.specs.declared.faults.Fault.{Fault}
+use Rattle.text.specs.declared.faults.Layer.TheVariants.{Sheet as SheetLayer}
+use Rattle.text.specs.declared.faults.Place.{Place}
+use Rattle.text.specs.declared.lines.Reader.{Reader}
+use Rattle.sheet.specs.declared.ats.At.{At as AtLine}
+use Rattle.forms.specs.declared.sayings.QueueName.{QueueName}
 
 -- What a sheet sets: a table, a queue, at-lines in the order of their lines, and a number of ticks.
 pub record Set : Type 0 where
   pub table : List Duty
   pub queue : QueueName
-  pub ats : List At-line
+  pub ats : List AtLine
   pub ticks : ℕ
 
-abbrev pub set-by : Sheet → Set
-set-by s = record { table = table-of (s .setting); queue = s .queue; ats = take (s .count) (s .ats); ticks = s .ticks }
+abbrev pub set_by : Sheet → Set
+set_by s = record { table = table_of s.setting; queue = s.queue; ats = take s.count s.ats; ticks = s.ticks }
 
 -- The end line was reached.
 abbrev pub over : Stage → Bool
@@ -41,43 +33,43 @@ over Ats = false
 over Over = true
 
 -- The first at-line that is not before the end.
-abbrev pub late : ℕ → List At-line → Option Fault
+abbrev pub late : ℕ → List AtLine → Option Fault
 late ticks [] = None
 late ticks (a ∷ later) =
-    cond (ltb (a .clock) ticks) (late ticks later) (Some (fault 16 Sheet-layer (record { line = a .line; byte = a .start })))
+    cond (nat_lt a.clock ticks) (late ticks later) (Some (fault 16 SheetLayer (record { line = a.line; byte = a.start })))
 
 -- A sheet whose lines have no fault: its end line must be there, and then no at-line may be late.
-abbrev pub whole : Place → So-far → Result Set Fault
+abbrev pub whole : Place → SoFar → Result Set Fault
 whole missing s =
-    judged (unless (over (s .stage)) (fault 16 Sheet-layer missing) ∷ late (s .ticks) (s .ats) ∷ [])
-    (record { table = s .table; queue = s .queue; ats = s .ats; ticks = s .ticks })
+    judged (unless (over s.stage) (fault 16 SheetLayer missing) ∷ late s.ticks s.ats ∷ [])
+    (record { table = s.table; queue = s.queue; ats = s.ats; ticks = s.ticks })
 
 -- One past the last line, at the text's length.
-abbrev pub missing-line : List ℕ → Place
-missing-line text = record { line = 1 + length (lines first-place text); byte = length text }
+abbrev pub missing_line : List ℕ → Place
+missing_line text = record { line = 1 + length (lines first_place text); byte = length text }
 
 -- Where a reader stands after its last line.
-abbrev pub end-of : Reader → Place
-end-of r = record { line = r .place .line + length (lines-left r); byte = length (r .text .now) }
+abbrev pub end_of : Reader → Place
+end_of r = record { line = r.place.line + length (lines_left r); byte = length r.text.now }
 
 -- A sheet whose lines were judged.
-abbrev pub of-lines : Place → Result So-far Fault → Result Set Fault
-of-lines missing (Ok s) = whole missing s
-of-lines missing (Err f) = Err f
+abbrev pub of_lines : Place → Result SoFar Fault → Result Set Fault
+of_lines missing (Ok s) = whole missing s
+of_lines missing (Err f) = Err f
 
 -- 17, where a text is too long.
-abbrev pub too-long : List ℕ → Option Fault
-too-long text = unless (leb (length text) 32768) (fault 17 Sheet-layer first-place)
+abbrev pub too_long : List ℕ → Option Fault
+too_long text = unless (nat_le (length text) 32768) (fault 17 SheetLayer first_place)
 
 -- The sheet that a text is, or its fault.
-abbrev pub sheet-of : List ℕ → Result Set Fault
-sheet-of text =
-    elim (too-long text) [
+abbrev pub sheet_of : List ℕ → Result Set Fault
+sheet_of text =
+    elim (too_long text) [
       | Some f ↦ Err f
-      | None ↦ of-lines (missing-line text) (lines-judged nothing-read (lines first-place text))
+      | None ↦ of_lines (missing_line text) (lines_judged nothing_read (lines first_place text))
     ]
 
 -- What reading gave, as a sheet or a fault.
 abbrev pub outcome : {E : Type 0} → (E → Fault) → Result Sheet E → Result Set Fault
-outcome tells (Ok s) = Ok (set-by s)
+outcome tells (Ok s) = Ok (set_by s)
 outcome tells (Err e) = Err (tells e)

@@ -1,35 +1,24 @@
 // The layers of the sheet and of the table: each line enters the draft, or has the first fault of any layer.
-ghost use mathlib.Core.Path.{_≡_};
-ghost use mathlib.Core.Bool.{true};
-ghost use mathlib.Core.List.{[], _∷_, _++_};
-ghost use Prim.Native.Nat.{_+_, _<_};
-ghost use lib.Dec.{ltb};
-ghost use lib.ListN.{length, take};
-ghost use Rattle·text.specs.Faults.{reported};
-ghost use Rattle·sheet·specs.Told.{sheet-told, table-told};
-ghost use Rattle·text.specs.Lines.{line-of};
-ghost use Rattle·sheet·specs.Orders.{duty-judged, has-room, in-order, left-with, line-judged, nothing-read, order-judged, said-judged, so-far};
+ghost use Rattle.std.specs.Prelude.{◌≡◌, ◌+◌, ◌<◌, true, [], ◌∷◌, ◌++◌, length, take, nat_lt};
+ghost use Rattle.text.specs.Faults.{reported};
+ghost use Rattle.sheet.specs.Told.{sheet_told, table_told};
+ghost use Rattle.text.specs.Lines.{line_of};
+ghost use Rattle.sheet.specs.Orders.{duty_judged, has_room, in_order, left_with, line_judged, nothing_read, order_judged, said_judged, so_far};
+
 use crate::ats::At;
-use crate::drafts::Draft;
-use crate::drafts::Stage;
-use crate::faults::SheetFault;
-use crate::faults::TableFault;
-use crate::passing::SheetFromForms;
-use crate::passing::TableFromSheet;
-use forms::QueueName;
-use forms::Said;
-use forms::form_said;
+use crate::drafts::{Draft, Stage};
+use crate::faults::{SheetFault, TableFault};
+use forms::{QueueName, Said, form_said};
 use model::Duty;
 use table::Setting;
-use text::Line;
-use text::Place;
+use text::{Line, Place};
 
 // The most at-lines that a sheet may have.
 const MOST_ATS: usize = 256;
 
 // Which lines may come.
 fn in_order(stage: Stage, said: Said) -> bool
-    ensures { λ r. ⌜ r ≡ in-order stage said ⌝ }
+    ensures { result ≡ in_order stage said }
 {
     match (stage, said) {
         (Stage::Start, Said::Sheet) => true,
@@ -45,15 +34,15 @@ fn in_order(stage: Stage, said: Said) -> bool
 
 // There is room for one more at-line.
 fn room_for_at(ats: &[At; 256], count: usize) -> bool
-    ensures { λ r. ⌜ r ≡ ltb (length (take count (now (ats .entry)))) 256 ⌝ }
+    ensures { result ≡ nat_lt (length (take count ats.now)) 256 }
 {
     count < MOST_ATS
 }
 
 // Puts one more at-line behind the others, and answers how many there are then.
 fn put_at(ats: &mut [At; 256], count: usize, at: At) -> usize
-    requires { ⌜ length (take count (now ats)) < 256 ⌝ }
-    ensures { λ r. ⌜ take r (now (ats .exit)) ≡ take count (now (ats .entry)) ++ (at ∷ []) ⌝ }
+    requires { length (take count ats.old) < 256 }
+    ensures { take result ats.new ≡ take count ats.old ++ (at ∷ []) }
 {
     ats[count] = at;
     count + 1
@@ -62,7 +51,7 @@ fn put_at(ats: &mut [At; 256], count: usize, at: At) -> usize
 impl Draft {
     // Nothing is read.
     pub(crate) fn new() -> Draft
-        ensures { λ r. ⌜ so-far r ≡ nothing-read ⌝ }
+        ensures { so_far result ≡ nothing_read }
     {
         let none = At {
             clock: 0,
@@ -82,7 +71,7 @@ impl Draft {
 
     // There is room for what a line says.
     fn has_room(&self, said: Said) -> bool
-        ensures { λ r. ⌜ r ≡ has-room (so-far (now (self .entry)) .ats) said ⌝ }
+        ensures { result ≡ has_room (so_far self.now).ats said }
     {
         match said {
             Said::At(_) => room_for_at(&self.ats, self.count),
@@ -92,7 +81,7 @@ impl Draft {
 
     // What a line says at its place in the sheet.
     fn ordered(&self, line: Line) -> Result<Said, SheetFault>
-        ensures { λ r. ⌜ reported sheet-told r ≡ order-judged (so-far (now (self .entry))) (line-of (line .entry)) ⌝ }
+        ensures { reported sheet_told result ≡ order_judged (so_far self.now) (line_of line.entry) }
     {
         let said = form_said(line)?;
         if !in_order(self.stage, said) {
@@ -106,7 +95,7 @@ impl Draft {
 
     // Adds a duty to the table.
     fn add(&mut self, at: Place, place: u32, duty: Duty) -> Result<(), TableFault>
-        ensures { λ r. ⌜ left-with table-told r (so-far (now (self .exit))) ≡ duty-judged (so-far (now (self .entry))) at place duty ⌝ }
+        ensures { left_with table_told result (so_far self.new) ≡ duty_judged (so_far self.old) at place duty }
     {
         match self.setting.add(place, duty) {
             Ok(()) => Ok(()),
@@ -116,8 +105,8 @@ impl Draft {
 
     // Takes up what a line in its place says.
     fn take(&mut self, line: Line, said: Said) -> Result<(), TableFault>
-        requires { ⌜ has-room (so-far (now self) .ats) said ≡ true ⌝ }
-        ensures { λ r. ⌜ left-with table-told r (so-far (now (self .exit))) ≡ said-judged (so-far (now (self .entry))) (line-of (line .entry)) said ⌝ }
+        requires { has_room (so_far self.old).ats said ≡ true }
+        ensures { left_with table_told result (so_far self.new) ≡ said_judged (so_far self.old) (line_of line.entry) said }
     {
         match said {
             Said::Sheet => {
@@ -152,7 +141,7 @@ impl Draft {
 
     // The next line of the sheet enters the draft.
     pub(crate) fn enter(&mut self, line: Line) -> Result<(), TableFault>
-        ensures { λ r. ⌜ left-with table-told r (so-far (now (self .exit))) ≡ line-judged (so-far (now (self .entry))) (line-of (line .entry)) ⌝ }
+        ensures { left_with table_told result (so_far self.new) ≡ line_judged (so_far self.old) (line_of line.entry) }
     {
         let said = self.ordered(line)?;
         self.take(line, said)

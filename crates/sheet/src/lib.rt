@@ -1,5 +1,7 @@
 // Reading sheets: the lines of a text, in their order, set a table, a queue, at-lines and a number of ticks; or the
 // text has one fault.
+#![tactic(auto)]
+
 mod ats;
 mod drafts;
 mod entering;
@@ -10,13 +12,7 @@ mod replaying;
 #[cfg(test)]
 mod tests;
 
-pub use ats::At;
-pub use ats::Calls;
+pub use ats::{At, Calls};
 pub use drafts::Sheet;
-pub use faults::SheetFault;
-pub use faults::TableFault;
-pub use passing::FaultFromTable;
-pub use passing::SheetFromForms;
-pub use passing::TableFromSheet;
-pub use reading::read;
-pub use reading::sheets_hold;
+pub use faults::{SheetFault, TableFault};
+pub use reading::{read, sheets_hold};

@@ -1,34 +1,32 @@
 // Faults passed on from layer to layer; each keeps its number, line, byte and layer.
-ghost use mathlib.Core.Path.{_≡_};
-ghost use Rattle·model.specs.Refusals.{told};
-ghost use Rattle·forms.specs.Faults.{forms-told};
-ghost use Rattle·sheet·specs.Told.{sheet-told, table-fault, table-told};
-use crate::faults::SheetFault;
-use crate::faults::TableFault;
+ghost use Rattle.std.specs.Prelude.{◌≡◌};
+ghost use Rattle.model.specs.Refusals.{told};
+ghost use Rattle.forms.specs.Faults.{forms_told};
+ghost use Rattle.sheet.specs.Told.{sheet_told, table_fault, table_told};
+
+use crate::faults::{SheetFault, TableFault};
 use forms::FormsFault;
 use model::Refusal;
-use text::Fault;
-use text::Layer;
-use text::Place;
+use text::{Fault, Layer, Place};
 
-pub impl From<FormsFault> for SheetFault as SheetFromForms {
-    ghost converts = { λ e f. sheet-told f ≡ forms-told e };
+impl From<FormsFault> for SheetFault {
+    ghost from_gives = { λ e f. sheet_told f ≡ forms_told e };
 
     fn from(e: FormsFault) -> SheetFault {
         SheetFault::Forms(e)
     }
 }
 
-pub impl From<SheetFault> for TableFault as TableFromSheet {
-    ghost converts = { λ e f. table-told f ≡ sheet-told e };
+impl From<SheetFault> for TableFault {
+    ghost from_gives = { λ e f. table_told f ≡ sheet_told e };
 
     fn from(e: SheetFault) -> TableFault {
         TableFault::Sheet(e)
     }
 }
 
-pub impl From<TableFault> for Fault as FaultFromTable {
-    ghost converts = { λ e f. f ≡ table-told e };
+impl From<TableFault> for Fault {
+    ghost from_gives = { λ e f. f ≡ table_told e };
 
     fn from(e: TableFault) -> Fault {
         match e {
@@ -39,7 +37,7 @@ pub impl From<TableFault> for Fault as FaultFromTable {
 }
 
 fn of_sheet(e: SheetFault) -> Fault
-    ensures { λ r. ⌜ r ≡ sheet-told e ⌝ }
+    ensures { result ≡ sheet_told e }
 {
     match e {
         SheetFault::Forms(f) => f.report(),
@@ -49,7 +47,7 @@ fn of_sheet(e: SheetFault) -> Fault
 }
 
 fn of_table(place: Place, why: Refusal) -> Fault
-    ensures { λ r. ⌜ r ≡ table-fault place (told why) ⌝ }
+    ensures { result ≡ table_fault place (told why) }
 {
     let row = match why {
         Refusal::Unschedulable(row) => Some(row),

@@ -1,37 +1,30 @@
 // Whole sheets: the lines of a text enter a draft one after the other, and a draft with all its lines is a sheet.
-ghost use mathlib.Core.Path.{_≡_};
-ghost use lib.ListN.{take};
-ghost use Rattle·text.specs.Faults.{failing};
-ghost use Rattle·sheet·specs.Told.{sheet-told, table-told};
-ghost use Rattle·text.specs.Lines.{lines-left};
-ghost use Rattle·sheet·specs.Orders.{lines-judged, nothing-read, so-far};
-ghost use Rattle·sheet·specs.Laws.{Sheets-hold};
-ghost use Rattle·sheet·specs.Sheets.{end-of, late, of-lines, outcome, sheet-of, too-long, whole};
+ghost use Rattle.std.specs.Prelude.{◌≡◌, take};
+ghost use Rattle.text.specs.Faults.{failing};
+ghost use Rattle.sheet.specs.Told.{sheet_told, table_told};
+ghost use Rattle.text.specs.Lines.{lines_left};
+ghost use Rattle.sheet.specs.Orders.{lines_judged, nothing_read, so_far};
+ghost use Rattle.sheet.specs.Laws.{SheetsHold};
+ghost use Rattle.sheet.specs.Sheets.{end_of, late, of_lines, outcome, sheet_of, too_long, whole};
+
 use crate::ats::At;
-use crate::drafts::Draft;
-use crate::drafts::Sheet;
-use crate::drafts::Stage;
-use crate::faults::SheetFault;
-use crate::faults::TableFault;
-use crate::passing::FaultFromTable;
-use crate::passing::TableFromSheet;
-use text::Fault;
-use text::Place;
-use text::Reader;
+use crate::drafts::{Draft, Sheet, Stage};
+use crate::faults::{SheetFault, TableFault};
+use text::{Fault, Place, Reader};
 
 // The longest text that is read.
 const LONGEST: usize = 32768;
 
 // The at-lines in their slots.
 pub(crate) fn held(ats: &[At; 256], count: usize) -> &[At]
-    ensures { λ r. ⌜ now r ≡ take count (now (ats .entry)) ⌝ }
+    ensures { result.now ≡ take count ats.now }
 {
     &ats[0..count.min(256)]
 }
 
 // No at-line is late: each comes before the end.
 fn on_time(ats: &[At], ticks: u32) -> Result<(), SheetFault>
-    ensures { λ r. ⌜ failing sheet-told r ≡ late ticks (now (ats .entry)) ⌝ }
+    ensures { failing sheet_told result ≡ late ticks ats.now }
 {
     for at in ats {
         if at.clock >= ticks {
@@ -46,7 +39,7 @@ fn on_time(ats: &[At], ticks: u32) -> Result<(), SheetFault>
 
 // The sheet that a draft has become once all lines were read; the end line may be missing.
 fn finished(draft: Draft, missing: Place) -> Result<Sheet, SheetFault>
-    ensures { λ r. ⌜ outcome sheet-told r ≡ whole missing (so-far draft) ⌝ }
+    ensures { outcome sheet_told result ≡ whole missing (so_far draft) }
 {
     let Draft {
         stage,
@@ -71,7 +64,7 @@ fn finished(draft: Draft, missing: Place) -> Result<Sheet, SheetFault>
 
 // The text is not too long.
 fn short(text: &[u8]) -> Result<(), SheetFault>
-    ensures { λ r. ⌜ failing sheet-told r ≡ too-long (now (text .entry)) ⌝ }
+    ensures { failing sheet_told result ≡ too_long text.now }
 {
     if text.len() <= LONGEST {
         Ok(())
@@ -82,7 +75,7 @@ fn short(text: &[u8]) -> Result<(), SheetFault>
 
 // Every line that the reader hands out enters a draft, and the draft is finished.
 fn read_lines(mut reader: Reader) -> Result<Sheet, TableFault>
-    ensures { λ r. ⌜ outcome table-told r ≡ of-lines (end-of (reader .entry)) (lines-judged nothing-read (lines-left (reader .entry))) ⌝ }
+    ensures { outcome table_told result ≡ of_lines (end_of reader.entry) (lines_judged nothing_read (lines_left reader.entry)) }
 {
     let mut draft = Draft::new();
     while let Some(line) = reader.next() {
@@ -94,7 +87,7 @@ fn read_lines(mut reader: Reader) -> Result<Sheet, TableFault>
 
 // The sheet that a text is, or its fault.
 fn read_text(text: &[u8]) -> Result<Sheet, TableFault>
-    ensures { λ r. ⌜ outcome table-told r ≡ sheet-of (now (text .entry)) ⌝ }
+    ensures { outcome table_told result ≡ sheet_of text.now }
 {
     short(text)?;
     read_lines(Reader::new(text))
@@ -102,7 +95,7 @@ fn read_text(text: &[u8]) -> Result<Sheet, TableFault>
 
 // The sheet that a text is, or its fault as it is reported.
 pub fn read(text: &[u8]) -> Result<Sheet, Fault>
-    ensures { λ r. ⌜ outcome (λ f. f) r ≡ sheet-of (now (text .entry)) ⌝ }
+    ensures { outcome (λ f. f) result ≡ sheet_of text.now }
 {
     let sheet = read_text(text)?;
     Ok(sheet)
@@ -110,7 +103,7 @@ pub fn read(text: &[u8]) -> Result<Sheet, Fault>
 
 // In every sheet that is read, each at-line has calls, all of which are handed out, and comes before the end.
 pub fn sheets_hold() -> u8
-    ensures { λ _. ⌜ Sheets-hold ⌝ }
+    ensures { SheetsHold }
 {
     0
 }

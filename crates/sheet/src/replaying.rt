@@ -1,23 +1,21 @@
 // What a sheet sets, and the calls of its at-lines.
-ghost use mathlib.Core.Path.{_≡_};
-ghost use Rattle·table.specs.Settings.{table-of};
-ghost use Rattle·sheet·specs.Ats.{calls-left, calls-of, Next-call};
-ghost use Rattle·sheet·specs.Sheets.{set-by};
-use crate::ats::At;
-use crate::ats::Calls;
+ghost use Rattle.std.specs.Prelude.{◌≡◌};
+ghost use Rattle.table.specs.Settings.{table_of};
+ghost use Rattle.sheet.specs.Ats.{calls_left, calls_of, NextCall};
+ghost use Rattle.sheet.specs.Sheets.{set_by};
+
+use crate::ats::{At, Calls};
 use crate::drafts::Sheet;
 use crate::reading::held;
-use forms::QueueName;
-use forms::call;
+use forms::{QueueName, call};
 use model::Call;
 use table::Setting;
-use text::Items;
-use text::Part;
+use text::{Items, Part};
 
 impl<'a> Calls<'a> {
     // The calls of an at-line of this text.
     pub fn new(text: &'a [u8], at: At) -> Calls<'a>
-        ensures { λ r. ⌜ calls-left r ≡ calls-of (now (text .entry)) at ⌝ }
+        ensures { calls_left result ≡ calls_of text.now at }
     {
         let mut items = Items::new(Part {
             text,
@@ -33,7 +31,7 @@ impl<'a> Calls<'a> {
 
     // The next call. An item that is no call is not passed over, so after it there is none.
     pub fn next(&mut self) -> Option<Call>
-        ensures { λ r. ⌜ Next-call (calls-left (now (self .entry))) r (calls-left (now (self .exit))) ⌝ }
+        ensures { NextCall (calls_left self.old) result (calls_left self.new) }
     {
         let mut items = self.items;
         let call = call(items.next()?)?;
@@ -45,14 +43,14 @@ impl<'a> Calls<'a> {
 impl Sheet {
     // The table, for its rows and response times.
     pub fn setting(&self) -> &Setting
-        ensures { λ r. ⌜ table-of (now r) ≡ set-by (now (self .entry)) .table ⌝ }
+        ensures { table_of result.now ≡ (set_by self.now).table }
     {
         &self.setting
     }
 
     // The table, to start a dispatcher with.
     pub fn into_setting(self) -> Setting
-        ensures { λ r. ⌜ table-of r ≡ set-by self .table ⌝ }
+        ensures { table_of result ≡ (set_by self).table }
     {
         let Sheet {
             setting,
@@ -66,21 +64,21 @@ impl Sheet {
 
     // The queue in which errands wait.
     pub fn queue(&self) -> QueueName
-        ensures { λ r. ⌜ r ≡ set-by (now (self .entry)) .queue ⌝ }
+        ensures { result ≡ (set_by self.now).queue }
     {
         self.queue
     }
 
     // The at-lines, in the order of their lines.
     pub fn ats(&self) -> &[At]
-        ensures { λ r. ⌜ now r ≡ set-by (now (self .entry)) .ats ⌝ }
+        ensures { result.now ≡ (set_by self.now).ats }
     {
         held(&self.ats, self.count)
     }
 
     // The number of ticks.
     pub fn ticks(&self) -> u32
-        ensures { λ r. ⌜ r ≡ set-by (now (self .entry)) .ticks ⌝ }
+        ensures { result ≡ (set_by self.now).ticks }
     {
         self.ticks
     }

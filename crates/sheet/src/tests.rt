@@ -1,17 +1,8 @@
 // A sheet that is read, a fault of each layer, and the places of nested forms.
-use crate::Calls;
-use crate::read;
+use crate::{Calls, read};
 use model::Call;
-use std::test::*;
-use text::Fault;
-use text::FaultDebug;
-use text::FaultPartialEq;
-use text::Items;
-use text::Layer;
-use text::Part;
-use text::Place;
-use text::PlaceDebug;
-use text::PlacePartialEq;
+use std::test::Fail;
+use text::{Fault, Items, Layer, Part, Place};
 
 const HARVEST: &[u8] =
     b"(sheet 1)\n(duty 0 1 4 4)\n(duty 1 2 6 6)\n(remark two duties)\n(queue worth)\n(at 0 (release 0) (request 7 3 10))\n(at 4 (release 1))\n(end 5)\n";
@@ -34,33 +25,34 @@ fn at(number: u32, line: usize, byte: usize, layer: Layer) -> Option<Fault> {
 }
 
 #[test]
-fn a_sheet_is_read() -> Result<(), Fail> {
+fn a_sheet_is_read(rt: HostRuntime) -> Result<(), Fail> {
     let sheet = read(HARVEST)?;
-    check_eq(sheet.setting().rows().len(), 2)?;
-    check_eq(sheet.ticks(), 5)?;
+    assert_eq!(rt; sheet.setting().rows().len(), 2);
+    assert_eq!(rt; sheet.ticks(), 5);
     let ats = sheet.ats();
-    check(ats.len() == 2)?;
-    check_eq(ats[1].clock, 4)?;
+    assert!(rt; ats.len() == 2);
+    assert_eq!(rt; ats[1].clock, 4);
     let mut calls = Calls::new(HARVEST, ats[0]);
-    check(matches!(calls.next(), Some(Call::Release(0))))?;
-    check(matches!(calls.next(), Some(Call::Request(_))))?;
-    check(calls.next().is_none())
+    assert!(rt; matches!(calls.next(), Some(Call::Release(0))));
+    assert!(rt; matches!(calls.next(), Some(Call::Request(_))));
+    assert!(rt; calls.next().is_none());
+    Ok(())
 }
 
 #[test]
-fn each_layer_has_faults() -> Result<(), Fail> {
-    check_eq(fault_of(b""), at(16, 1, 0, Layer::Sheet))?;
-    check_eq(fault_of(b"(sheet\t1)\n"), at(12, 1, 6, Layer::Letters))?;
-    check_eq(fault_of(b"(sheet 1)\n\n"), at(13, 2, 10, Layer::Forms))?;
-    check_eq(fault_of(b"(sheet 2)\n"), at(14, 1, 0, Layer::Forms))?;
-    check_eq(
+fn each_layer_has_faults(rt: HostRuntime) {
+    assert_eq!(rt; fault_of(b""), at(16, 1, 0, Layer::Sheet));
+    assert_eq!(rt; fault_of(b"(sheet\t1)\n"), at(12, 1, 6, Layer::Letters));
+    assert_eq!(rt; fault_of(b"(sheet 1)\n\n"), at(13, 2, 10, Layer::Forms));
+    assert_eq!(rt; fault_of(b"(sheet 2)\n"), at(14, 1, 0, Layer::Forms));
+    assert_eq!(rt;
         fault_of(b"(sheet 1)\n(end 10001)\n"),
-        at(15, 2, 10, Layer::Forms),
-    )?;
-    check_eq(
+        at(15, 2, 10, Layer::Forms)
+    );
+    assert_eq!(rt;
         fault_of(b"(sheet 1)\n(duty 0 2 1 4)\n"),
-        at(2, 2, 10, Layer::Table),
-    )
+        at(2, 2, 10, Layer::Table)
+    );
 }
 
 fn place_of(item: Option<Part>) -> Option<Place> {
@@ -71,7 +63,7 @@ fn place_of(item: Option<Part>) -> Option<Place> {
 }
 
 #[test]
-fn nested_forms_have_places() -> Result<(), Fail> {
+fn nested_forms_have_places(rt: HostRuntime) -> Result<(), Fail> {
     let text = b"(end 1)\n(at 0 (done 12))\n";
     let mut items = Items::new(Part {
         text,
@@ -79,18 +71,21 @@ fn nested_forms_have_places() -> Result<(), Fail> {
         start: 8,
         end: 24,
     });
-    check_eq(place_of(items.next()), Some(Place { line: 2, byte: 9 }))?;
-    check_eq(place_of(items.next()), Some(Place { line: 2, byte: 12 }))?;
+    assert_eq!(rt; place_of(items.next()), Some(Place { line: 2, byte: 9 }));
+    assert_eq!(rt; place_of(items.next()), Some(Place { line: 2, byte: 12 }));
     let Some(done) = items.next() else {
-        return check(false);
+        assert!(rt; false);
+        return Ok(());
     };
-    check_eq(done.place(), Place { line: 2, byte: 14 })?;
-    check(items.next().is_none())?;
+    assert_eq!(rt; done.place(), Place { line: 2, byte: 14 });
+    assert!(rt; items.next().is_none());
     let mut items = Items::new(done);
-    check_eq(place_of(items.next()), Some(Place { line: 2, byte: 15 }))?;
+    assert_eq!(rt; place_of(items.next()), Some(Place { line: 2, byte: 15 }));
     let Some(number) = items.next() else {
-        return check(false);
+        assert!(rt; false);
+        return Ok(());
     };
-    check_eq(number.place(), Place { line: 2, byte: 20 })?;
-    check(number.bytes() == b"12")
+    assert_eq!(rt; number.place(), Place { line: 2, byte: 20 });
+    assert!(rt; number.bytes() == b"12".as_slice());
+    Ok(())
 }

@@ -1,19 +1,20 @@
 // Stored sheets, each with the text that an independent reckoner gave for it: NAME.sheet and NAME.text for every name in the
 // file `names`.
-use std::fs;
-use std::io;
+#![tactic(auto)]
+
+use std::{fs, io};
 use transcript::transcript;
 
 // The transcript of a stored sheet is its text, to the byte.
-fn agrees(rt: &LibcRuntime, name: &str) -> io::Result<bool> {
+fn agrees(rt: &HostRuntime, name: &str) -> io::Result<bool> {
     let heap = rt.alloc();
-    let sheet = fs::read(rt, format!(heap, "{name}.sheet")?)?;
-    let text = fs::read(rt, format!(heap, "{name}.text")?)?;
+    let sheet = fs::read(rt, format!(in heap; "{name}.sheet")?)?;
+    let text = fs::read(rt, format!(in heap; "{name}.text")?)?;
     let out = transcript(heap, sheet.as_slice())?;
     Ok(out.as_slice() == text.as_slice())
 }
 
-fn main(rt: LibcRuntime) -> io::Result<()> {
+fn main(rt: HostRuntime) -> io::Result<()> {
     let names = fs::read_to_string(&rt, "names")?;
     let mut all = 0u32;
     let mut agreeing = 0u32;
@@ -21,10 +22,10 @@ fn main(rt: LibcRuntime) -> io::Result<()> {
         all = all.saturating_add(1);
         if agrees(&rt, name)? {
             agreeing = agreeing.saturating_add(1);
-            println!(rt, "{name} agrees")?;
+            println!(rt; "{name} agrees")?;
         } else {
-            println!(rt, "{name} differs")?;
+            println!(rt; "{name} differs")?;
         }
     }
-    println!(rt, "{agreeing} of {all} agree")
+    println!(rt; "{agreeing} of {all} agree")
 }

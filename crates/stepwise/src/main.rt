@@ -1,14 +1,10 @@
 // The six calls, made one by one: how a program that is not a sheet drives the dispatcher. A setting moves into the
 // running dispatcher, so that nothing can be added after the start and nothing ticks before it.
+#![tactic(auto)]
+
 use dispatcher::Dispatcher;
-use model::Duty;
-use model::Errand;
-use model::Refusal;
-use model::Who;
-use queue::FirstCome;
-use queue::FirstComeQueue;
-use queue::Queue;
-use queue::Slot;
+use model::{Duty, Errand, Refusal, Who};
+use queue::{FirstCome, Queue, Slot};
 use std::io;
 use table::Setting;
 
@@ -30,30 +26,30 @@ fn three() -> Result<Setting, Refusal> {
 }
 
 // One tick, printed.
-fn tick<Q: Queue>(rt: &LibcRuntime, dispatcher: &mut Dispatcher<Q>) -> io::Result<()> {
+fn tick<Q: Queue>(rt: &HostRuntime, dispatcher: &mut Dispatcher<Q>) -> io::Result<()> {
     match dispatcher.tick() {
-        Ok((slack, Who::Nobody)) => println!(rt, "slack {slack}, nobody"),
-        Ok((slack, Who::Duty(row))) => println!(rt, "slack {slack}, duty {row}"),
-        Ok((slack, Who::Errand(number))) => println!(rt, "slack {slack}, errand {number}"),
+        Ok((slack, Who::Nobody)) => println!(rt; "slack {slack}, nobody"),
+        Ok((slack, Who::Duty(row))) => println!(rt; "slack {slack}, duty {row}"),
+        Ok((slack, Who::Errand(number))) => println!(rt; "slack {slack}, errand {number}"),
         Err(why) => {
             let number = why.number();
-            println!(rt, "refused {number}")
+            println!(rt; "refused {number}")
         }
     }
 }
 
 // What a call that may be refused answered, printed.
-fn told(rt: &LibcRuntime, word: &str, answer: Result<(), Refusal>) -> io::Result<()> {
+fn told(rt: &HostRuntime, word: &str, answer: Result<(), Refusal>) -> io::Result<()> {
     match answer {
-        Ok(()) => println!(rt, "{word} accepted"),
+        Ok(()) => println!(rt; "{word} accepted"),
         Err(why) => {
             let number = why.number();
-            println!(rt, "{word} refused {number}")
+            println!(rt; "{word} refused {number}")
         }
     }
 }
 
-fn drive<Q: Queue + Drop>(rt: &LibcRuntime, setting: Setting, queue: Q) -> io::Result<()> {
+fn drive<Q: Queue + Drop>(rt: &HostRuntime, setting: Setting, queue: Q) -> io::Result<()> {
     let mut dispatcher = Dispatcher::start(setting, queue);
     tick(rt, &mut dispatcher)?;
     told(rt, "release 0", dispatcher.release(0))?;
@@ -68,37 +64,37 @@ fn drive<Q: Queue + Drop>(rt: &LibcRuntime, setting: Setting, queue: Q) -> io::R
     told(rt, "request 7", dispatcher.request(errand))?;
     told(rt, "request 7", dispatcher.request(errand))?;
     let slack = dispatcher.slack();
-    println!(rt, "slack {slack}")?;
+    println!(rt; "slack {slack}")?;
     tick(rt, &mut dispatcher)?;
     match dispatcher.withdraw(7) {
-        Ok(units) => println!(rt, "withdraw 7 had {units}")?,
-        Err(_) => println!(rt, "withdraw 7 refused")?,
+        Ok(units) => println!(rt; "withdraw 7 had {units}")?,
+        Err(_) => println!(rt; "withdraw 7 refused")?,
     }
     tick(rt, &mut dispatcher)?;
     tick(rt, &mut dispatcher)
 }
 
 // The response times of the first rows, and of one that is not there.
-fn responses(rt: &LibcRuntime, setting: &Setting) -> io::Result<()> {
+fn responses(rt: &HostRuntime, setting: &Setting) -> io::Result<()> {
     for row in 0..4 {
         match setting.response(row) {
-            Ok(ticks) => println!(rt, "response {row} is {ticks}")?,
+            Ok(ticks) => println!(rt; "response {row} is {ticks}")?,
             Err(why) => {
                 let number = why.number();
-                println!(rt, "response {row} refused {number}")?;
+                println!(rt; "response {row} refused {number}")?;
             }
         }
     }
     Ok(())
 }
 
-fn main(rt: LibcRuntime) -> io::Result<()> {
+fn main(rt: HostRuntime) -> io::Result<()> {
     let mut slots = [Slot::free(); 4];
     match three() {
         Ok(setting) => {
             responses(&rt, &setting)?;
             drive(&rt, setting, FirstCome::new(&mut slots))
         }
-        Err(_) => println!(rt, "the table was refused"),
+        Err(_) => println!(rt; "the table was refused"),
     }
 }

@@ -1,24 +1,20 @@
 // Settings: made empty, grown by one duty at a time, and asked for response times.
-ghost use mathlib.Core.Path.{_≡_};
-ghost use mathlib.Core.List.{[]};
-ghost use Prim.Native.Nat.{_+_, _≤_, _<_};
-ghost use lib.ListN.{take};
-ghost use Rattle·std.specs.Holes.{inserted};
-ghost use Rattle·model.specs.Refusals.{refusal};
-ghost use Rattle·model.specs.Table.{add-refusal, after-add, within-limits};
-ghost use Rattle·table·specs.Settings.{Responds, table-of};
-use crate::analysis::first_late;
-use crate::analysis::response_time;
+ghost use Rattle.std.specs.Prelude.{◌≡◌, ◌+◌, ◌<◌, ◌≤◌, [], take};
+ghost use Rattle.std.specs.List.{insert};
+ghost use Rattle.model.specs.Refusals.{refusal};
+ghost use Rattle.model.specs.Table.{add_refusal, after_add, within_limits};
+ghost use Rattle.table.specs.Settings.{Responds, table_of};
+
+use crate::analysis::{first_late, response_time};
 use crate::settings::Setting;
-use model::Duty;
-use model::Refusal;
+use model::{Duty, Refusal};
 
 // A table has at most so many rows.
 const MOST_ROWS: usize = 16;
 
 // 1 ≤ cost ≤ deadline ≤ separation ≤ 4,096.
 fn within_limits(duty: Duty) -> bool
-    ensures { λ r. ⌜ r ≡ within-limits duty ⌝ }
+    ensures { result ≡ within_limits duty }
 {
     1 <= duty.cost
         && duty.cost <= duty.deadline
@@ -28,8 +24,8 @@ fn within_limits(duty: Duty) -> bool
 
 // The slots with the duty at its place and those from there on moved down one.
 fn with_duty(duties: &[Duty; 16], len: usize, place: usize, duty: Duty) -> [Duty; 16]
-    requires { ⌜ len < 16 ⌝ ∗ ⌜ place ≤ len ⌝ }
-    ensures { λ r. ⌜ take (len + 1) r ≡ inserted (take len (now (duties .entry))) place duty ⌝ }
+    requires { (len < 16) × (place ≤ len) }
+    ensures { take (len + 1) result ≡ insert (take len duties.now) place duty }
 {
     let mut moved = *duties;
     moved.copy_within(place..len, place + 1);
@@ -40,7 +36,7 @@ fn with_duty(duties: &[Duty; 16], len: usize, place: usize, duty: Duty) -> [Duty
 impl Setting {
     // A setting with no rows.
     pub fn new() -> Setting
-        ensures { λ r. ⌜ table-of r ≡ [] ⌝ }
+        ensures { table_of result ≡ [] }
     {
         let none = Duty {
             cost: 0,
@@ -55,15 +51,15 @@ impl Setting {
 
     // The duties, row 0 first.
     pub fn rows(&self) -> &[Duty]
-        ensures { λ r. ⌜ now r ≡ table-of (now (self .entry)) ⌝ }
+        ensures { result.now ≡ table_of self.now }
     {
         &self.duties[0..self.len]
     }
 
     // Adds a duty at a place; the rows from there on move down one. A refusal changes nothing.
     pub fn add(&mut self, place: u32, duty: Duty) -> Result<(), Refusal>
-        ensures answers { λ r. ⌜ refusal r ≡ add-refusal (table-of (now (self .entry))) place duty ⌝ }
-        ensures leaves { λ _. ⌜ table-of (now (self .exit)) ≡ after-add (table-of (now (self .entry))) place duty ⌝ }
+        ensures answers { refusal result ≡ add_refusal (table_of self.old) place duty }
+        ensures leaves { table_of self.new ≡ after_add (table_of self.old) place duty }
     {
         let len = self.len;
         let place = place as usize;
@@ -87,7 +83,7 @@ impl Setting {
 
     // The response time of a row.
     pub fn response(&self, row: u32) -> Result<u32, Refusal>
-        ensures { λ r. ⌜ Responds (table-of (now (self .entry))) row r ⌝ }
+        ensures { Responds (table_of self.now) row result }
     {
         let row = row as usize;
         if row >= self.len {

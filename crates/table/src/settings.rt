@@ -1,8 +1,6 @@
-ghost use mathlib.Core.Path.{_≡_};
-ghost use mathlib.Core.Bool.{true};
-ghost use Prim.Native.Nat.{_≤_};
-ghost use lib.ListN.{length, take};
-ghost use Rattle·model.specs.Table.{admitted};
+ghost use Rattle.std.specs.Prelude.{◌≡◌, ◌≤◌, true, length, take};
+ghost use Rattle.model.specs.Table.{admitted};
+
 use model::Duty;
 
 // A setting holds the duties of a table, row 0 the most urgent, in the first `len` of its slots. No

@@ -1,79 +1,72 @@
 -- Nothing of a text is lost or made up when it is taken apart into lines, or a form into items.
-use Prim.Native.Nat.{ℕ, suc, _+_}
-use mathlib.Core.Path.{_≡_, refl, sym, ap, subst, _∙_}
-use mathlib.Core.Bool.{false, not, _&&_}
-use mathlib.Core.List.{List, [], _∷_}
-use mathlib.Core.Logic.{_⊎_, inl, inr, ⊎-elim}
-use native.Mathlib.Omega.{arith}
-use lib.Dec.{eqb}
-use lib.ListN.{length}
-use Rattle·std.specs.Joined.{joined}
-use Rattle·std.proofs.shelf.Tests.{and-from, and-parts, cases-bool, eqb-true}
-use Rattle·text·specs.Bytes.{space}
-use Rattle·text·specs.Items.{item-begun-by, items, open-after}
-use Rattle·text·specs.Laws.{Follow, Lines-of, Taken-apart, spaced, with-end}
-use Rattle·text·specs.Lines.{Line, begun-by, lines, next-byte, next-line}
-use Rattle·text·specs.declared.faults.Place.{Place}
-use Rattle·text·proofs.Itemized.{items-split}
+use Rattle.std.proofs.Common.{◌≡◌, ℕ, suc, ◌+◌, false, not, ◌&&◌, eqb, ◌⊎◌, List, [], ◌∷◌, length, sym, refl, ap, ◌∙◌, subst, inl, inr, ⊎_elim, arith}
+use Rattle.std.specs.List.{flat_map}
+use Rattle.std.proofs.lemmas.Bool.{and_from, and_parts, cases_Bool, eqb-true}
+use Rattle.text.specs.Bytes.{space}
+use Rattle.text.specs.Items.{item_begun_by, items, open_after}
+use Rattle.text.specs.Laws.{Follow, LinesOf, TakenApart, spaced, with_end}
+use Rattle.text.specs.Lines.{Line, begun_by, lines, next_byte, next_line}
+use Rattle.text.specs.declared.faults.Place.{Place}
+use Rattle.text.proofs.Itemized.{items_split}
 
 -- One byte more at the front of the first line.
-begun-whole : (b : ℕ) (p : Place) (ls : List Line) → joined with-end (begun-by b p ls) ≡ b ∷ joined with-end ls
-begun-whole b p [] = refl
-begun-whole b p (l ∷ ls) = refl
+begun_whole : (b : ℕ) (p : Place) (ls : List Line) → flat_map with_end (begun_by b p ls) ≡ b ∷ flat_map with_end ls
+begun_whole b p [] = refl
+begun_whole b p (l ∷ ls) = refl
 
-begun-follow : (b : ℕ) (p : Place) (ls : List Line) → eqb b 10 ≡ false → Follow (next-byte p) ls → Follow p (begun-by b p ls)
-begun-follow b p [] plain follow = (refl, and-from _ _ (ap not plain) refl, inr refl, tt)
-begun-follow b p (l ∷ ls) plain follow =
-    let same : p .byte + 1 + length (l .bytes) + 1 ≡ p .byte + suc (length (l .bytes)) + 1 = omega arith in (
+begun_follow : (b : ℕ) (p : Place) (ls : List Line) → eqb b 10 ≡ false → Follow (next_byte p) ls → Follow p (begun_by b p ls)
+begun_follow b p [] plain follow = (refl, and_from _ _ (ap not plain) refl, inr refl, tt)
+begun_follow b p (l ∷ ls) plain follow =
+    let same : p.byte + 1 + length l.bytes + 1 ≡ p.byte + suc (length l.bytes) + 1 = omega arith in (
       refl,
-      and-from _ _ (ap not plain) (follow .1),
-      follow .2,
-      subst (λ (n : ℕ). Follow (record { line = p .line + 1; byte = n }) ls) same (follow .3),
+      and_from _ _ (ap not plain) follow.1,
+      follow.2,
+      subst (λ (n : ℕ). Follow (record { line = p.line + 1; byte = n }) ls) same follow.3,
     )
 
-lines-of : (p : Place) (text : List ℕ) → Lines-of p text
-lines-of p [] = record { follow = tt; whole = refl }
-lines-of p (b ∷ bs) =
-    ⊎-elim
+lines_of : (p : Place) (text : List ℕ) → LinesOf p text
+lines_of p [] = record { follow = tt; whole = refl }
+lines_of p (b ∷ bs) =
+    ⊎_elim
     (λ ends.
-    let rest = lines-of (next-line p) bs in
-    let same : p .byte + 1 ≡ p .byte + 0 + 1 = omega arith in
+    let rest = lines_of (next_line p) bs in
+    let same : p.byte + 1 ≡ p.byte + 0 + 1 = omega arith in
     record {
       follow =
-          rw ends (refl, refl, inl refl, subst (λ (n : ℕ). Follow (record { line = p .line + 1; byte = n }) (lines (next-line p) bs)) same (rest .follow));
-      whole = rw ends (ap (λ (xs : List ℕ). 10 ∷ xs) (rest .whole) ∙ ap (λ (x : ℕ). x ∷ bs) (sym (eqb-true b 10 ends)));
+          rw ends (refl, refl, inl refl, subst (λ (n : ℕ). Follow (record { line = p.line + 1; byte = n }) (lines (next_line p) bs)) same rest.follow);
+      whole = rw ends (ap (λ (xs : List ℕ). 10 ∷ xs) rest.whole ∙ ap (λ (x : ℕ). x ∷ bs) (sym (eqb-true b 10 ends)));
     })
     (λ plain.
-    let rest = lines-of (next-byte p) bs in
+    let rest = lines_of (next_byte p) bs in
     record {
-      follow = rw plain (begun-follow b p (lines (next-byte p) bs) plain (rest .follow));
-      whole = rw plain (begun-whole b p (lines (next-byte p) bs) ∙ ap (λ (xs : List ℕ). b ∷ xs) (rest .whole));
+      follow = rw plain (begun_follow b p (lines (next_byte p) bs) plain rest.follow);
+      whole = rw plain (begun_whole b p (lines (next_byte p) bs) ∙ ap (λ (xs : List ℕ). b ∷ xs) rest.whole);
     })
-    (cases-bool (eqb b 10))
+    (cases_Bool (eqb b 10))
 
 -- One byte more at the front of the first item, and one item more.
-begun-spaced : (b : ℕ) (is : List (List ℕ)) → spaced (item-begun-by b is) ≡ b ∷ spaced is
-begun-spaced b [] = refl
-begun-spaced b (i ∷ []) = refl
-begun-spaced b (i ∷ j ∷ is) = refl
+begun_spaced : (b : ℕ) (is : List (List ℕ)) → spaced (item_begun_by b is) ≡ b ∷ spaced is
+begun_spaced b [] = refl
+begun_spaced b (i ∷ []) = refl
+begun_spaced b (i ∷ j ∷ is) = refl
 
-none-before : (is : List (List ℕ)) (j : List ℕ) (js : List (List ℕ)) → is ≡ j ∷ js → spaced ([] ∷ is) ≡ 32 ∷ spaced is
-none-before is j js e = rw e
+none_before : (is : List (List ℕ)) (j : List ℕ) (js : List (List ℕ)) → is ≡ j ∷ js → spaced ([] ∷ is) ≡ 32 ∷ spaced is
+none_before is j js e = rw e
 
-items-spaced : (depth : ℕ) (bs : List ℕ) → spaced (items depth bs) ≡ bs
-items-spaced depth [] = refl
-items-spaced depth (b ∷ bs) =
-    ⊎-elim
+items_spaced : (depth : ℕ) (bs : List ℕ) → spaced (items depth bs) ≡ bs
+items_spaced depth [] = refl
+items_spaced depth (b ∷ bs) =
+    ⊎_elim
     (λ cut.
-    let is : b ≡ 32 = eqb-true b 32 (and-parts (space b) (eqb depth 0) cut .0) in
+    let is : b ≡ 32 = eqb-true b 32 (and_parts (space b) (eqb depth 0) cut).0 in
     rw cut
-    (none-before (items 0 bs) _ _ (items-split 0 bs)
-    ∙ ap (λ (xs : List ℕ). 32 ∷ xs) (items-spaced 0 bs)
+    (none_before (items 0 bs) _ _ (items_split 0 bs)
+    ∙ ap (λ (xs : List ℕ). 32 ∷ xs) (items_spaced 0 bs)
     ∙ ap (λ (x : ℕ). x ∷ bs) (sym is)))
     (λ plain.
     rw plain
-    (begun-spaced b (items (open-after depth b) bs) ∙ ap (λ (xs : List ℕ). b ∷ xs) (items-spaced (open-after depth b) bs)))
-    (cases-bool (space b && eqb depth 0))
+    (begun_spaced b (items (open_after depth b) bs) ∙ ap (λ (xs : List ℕ). b ∷ xs) (items_spaced (open_after depth b) bs)))
+    (cases_Bool (space b && eqb depth 0))
 
-pub taken-apart : Taken-apart
-taken-apart = record { by-lines = lines-of; by-items = items-spaced }
+pub taken_apart : TakenApart
+taken_apart = record { by_lines = lines_of; by_items = items_spaced }

@@ -1,24 +1,18 @@
 -- Faults, as they are reported: a number, a line, a byte and a layer.
-use Prim.Native.Nat.{ℕ}
-use mathlib.Core.Bool.{Bool, true, false}
-use mathlib.Core.List.{List, [], _∷_}
-use Rattle·std.specs.declared.option.Option.{Option}
-use Rattle·std.specs.declared.option.Option.the-variants.{Some, None}
-use Rattle·std.specs.declared.result.Result.{Result}
-use Rattle·std.specs.declared.result.Result.the-variants.{Ok, Err}
-use Rattle·text·specs.declared.faults.Fault.{Fault}
-use Rattle·text·specs.declared.faults.Layer.{Layer}
-use Rattle·text·specs.declared.faults.Layer.the-variants.{Letters}
-use Rattle·text·specs.declared.faults.LettersFault.{LettersFault}
-use Rattle·text·specs.declared.faults.Place.{Place}
+use Rattle.std.specs.Prelude.{ℕ, Bool, true, false, List, [], ◌∷◌, Some, None, Ok, Err, Option, Result}
+use Rattle.text.specs.declared.faults.Fault.{Fault}
+use Rattle.text.specs.declared.faults.Layer.{Layer}
+use Rattle.text.specs.declared.faults.Layer.TheVariants.{Letters}
+use Rattle.text.specs.declared.faults.LettersFault.{LettersFault}
+use Rattle.text.specs.declared.faults.Place.{Place}
 
 -- A fault with no row.
 abbrev pub fault : ℕ → Layer → Place → Fault
-fault number layer place = record { number = number; line = place .line; byte = place .byte; layer = layer; row = None }
+fault number layer place = record { number = number; line = place.line; byte = place.byte; layer = layer; row = None }
 
 -- The number and the values of a fault of the letters.
-abbrev pub letters-told : LettersFault → Fault
-letters-told f = fault 12 Letters (f .0)
+abbrev pub letters_told : LettersFault → Fault
+letters_told f = fault 12 Letters f.0
 
 -- A value, or the fault that a layer tells.
 abbrev pub reported : {X E : Type 0} → (E → Fault) → Result X E → Result X Fault

@@ -1,20 +1,12 @@
 -- The lines of a text, and the bytes that they may hold.
-use Prim.Native.Nat.{ℕ, suc, _+_}
-use mathlib.Core.Bool.{Bool, true, false, cond, _&&_}
-use mathlib.Core.List.{List, [], _∷_}
-use mathlib.Core.Path.{_≡_}
-use lib.Dec.{leb, eqb}
-use lib.ListN.{length, drop}
-use Rattle·std.specs.Slices.{found}
-use Rattle·std.specs.declared.option.Option.{Option}
-use Rattle·std.specs.declared.option.Option.the-variants.{Some, None}
-use Rattle·text·specs.Faults.{fault}
-use Rattle·text·specs.Parts.{Part-of, bytes-of, place-of}
-use Rattle·text·specs.declared.faults.Fault.{Fault}
-use Rattle·text·specs.declared.faults.Layer.the-variants.{Letters}
-use Rattle·text·specs.declared.faults.Place.{Place}
-use Rattle·text·specs.declared.lines.Line.{Line as Line-part}
-use Rattle·text·specs.declared.lines.Reader.{Reader}
+use Rattle.std.specs.Prelude.{◌≡◌, ℕ, suc, ◌+◌, Bool, true, false, cond, ◌&&◌, List, [], ◌∷◌, length, drop, IfSome, Some, None, Option, ◌==◌, nat_le}
+use Rattle.text.specs.Faults.{fault}
+use Rattle.text.specs.Parts.{PartOf, bytes_of, place_of}
+use Rattle.text.specs.declared.faults.Fault.{Fault}
+use Rattle.text.specs.declared.faults.Layer.TheVariants.{Letters}
+use Rattle.text.specs.declared.faults.Place.{Place}
+use Rattle.text.specs.declared.lines.Line.{Line as LinePart}
+use Rattle.text.specs.declared.lines.Reader.{Reader}
 
 -- A line: its bytes without the 10 that ends it, the place of its first byte, and whether that 10 is there.
 pub record Line : Type 0 where
@@ -23,60 +15,60 @@ pub record Line : Type 0 where
   pub ended : Bool
 
 -- The line that a part of a text stands for.
-abbrev pub line-of : Line-part → Line
-line-of l = record { bytes = bytes-of (l .part); place = place-of (l .part); ended = l .ended }
+abbrev pub line_of : LinePart → Line
+line_of l = record { bytes = bytes_of l.part; place = place_of l.part; ended = l.ended }
 
 -- The places of the next byte of the same line, and of the first byte of the next line.
-abbrev pub next-byte : Place → Place
-next-byte p = record { line = p .line; byte = p .byte + 1 }
+abbrev pub next_byte : Place → Place
+next_byte p = record { line = p.line; byte = p.byte + 1 }
 
-abbrev pub next-line : Place → Place
-next-line p = record { line = p .line + 1; byte = p .byte + 1 }
+abbrev pub next_line : Place → Place
+next_line p = record { line = p.line + 1; byte = p.byte + 1 }
 
 -- One byte more at the front of the first line, which then begins at that byte's place.
-abbrev pub begun-by : ℕ → Place → List Line → List Line
-begun-by b p [] = record { bytes = b ∷ []; place = p; ended = false } ∷ []
-begun-by b p (l ∷ ls) = record { bytes = b ∷ l .bytes; place = p; ended = l .ended } ∷ ls
+abbrev pub begun_by : ℕ → Place → List Line → List Line
+begun_by b p [] = record { bytes = b ∷ []; place = p; ended = false } ∷ []
+begun_by b p (l ∷ ls) = record { bytes = b ∷ l.bytes; place = p; ended = l.ended } ∷ ls
 
 -- The lines of a text that begins at a place. A 10 ends a line; any other byte belongs to the line that the bytes
 -- after it begin with.
 abbrev pub lines : Place → List ℕ → List Line
 lines p [] = []
 lines p (b ∷ bs) =
-    cond (eqb b 10)
-    (record { bytes = []; place = p; ended = true } ∷ lines (next-line p) bs)
-    (begun-by b p (lines (next-byte p) bs))
+    cond (b == 10)
+    (record { bytes = []; place = p; ended = true } ∷ lines (next_line p) bs)
+    (begun_by b p (lines (next_byte p) bs))
 
 -- The length of the first line: how many bytes come before the first 10.
-abbrev pub line-length : List ℕ → ℕ
-line-length [] = 0
-line-length (b ∷ bs) = cond (eqb b 10) 0 (suc (line-length bs))
+abbrev pub line_length : List ℕ → ℕ
+line_length [] = 0
+line_length (b ∷ bs) = cond (b == 10) 0 (suc (line_length bs))
 
 -- The place of a text's first byte.
-abbrev pub first-place : Place
-first-place = record { line = 1; byte = 0 }
+abbrev pub first_place : Place
+first_place = record { line = 1; byte = 0 }
 
 -- The lines that a reader has still to hand out.
-abbrev pub lines-left : Reader → List Line
-lines-left r = lines (r .place) (drop (r .place .byte) (r .text .now))
+abbrev pub lines_left : Reader → List Line
+lines_left r = lines r.place (drop r.place.byte r.text.now)
 
 -- The next line, if there is one.
-abbrev pub Next : List Line → Option Line-part → List Line → Type 0
+abbrev pub Next : List Line → Option LinePart → List Line → Type 0
 Next ls None later = (ls ≡ []) × (later ≡ [])
-Next ls (Some l) later = ls ≡ line-of l ∷ later
+Next ls (Some l) later = ls ≡ line_of l ∷ later
 
 -- What a reader hands out, and where it then stands.
-pub record Hands-out (before : Reader) (r : Option Line-part) (after : Reader) : Type 0 where
-  pub hands : Next (lines-left before) r (lines-left after)
-  pub counts : after .place .line + length (lines-left after) ≡ before .place .line + length (lines-left before)
-  pub stands : found r (λ (l : Line-part). Part-of (before .text .now) (l .part))
-  pub keeps : after .text .now ≡ before .text .now
+pub record HandsOut (before : Reader) (r : Option LinePart) (after : Reader) : Type 0 where
+  pub hands : Next (lines_left before) r (lines_left after)
+  pub counts : after.place.line + length (lines_left after) ≡ before.place.line + length (lines_left before)
+  pub stands : IfSome r (λ (l : LinePart). PartOf before.text.now l.part)
+  pub keeps : after.text.now ≡ before.text.now
 
 -- The bytes that a line may hold.
 abbrev pub allowed : ℕ → Bool
-allowed b = leb 32 b && leb b 126
+allowed b = nat_le 32 b && nat_le b 126
 
 -- 12, at the first byte that is not allowed.
-abbrev pub bad-letter : Place → List ℕ → Option Fault
-bad-letter p [] = None
-bad-letter p (b ∷ bs) = cond (allowed b) (bad-letter (next-byte p) bs) (Some (fault 12 Letters p))
+abbrev pub bad_letter : Place → List ℕ → Option Fault
+bad_letter p [] = None
+bad_letter p (b ∷ bs) = cond (allowed b) (bad_letter (next_byte p) bs) (Some (fault 12 Letters p))

@@ -1,5 +1,7 @@
 // A text taken apart: its lines, the items of a form, and their letters. Each is handed out as a part of the text with its
 // place.
+#![tactic(auto)]
+
 mod faults;
 mod itemizing;
 mod items;
@@ -10,19 +12,9 @@ mod placing;
 mod reporting;
 mod splitting;
 
-pub use faults::Fault;
-pub use faults::FaultDebug;
-pub use faults::FaultPartialEq;
-pub use faults::Layer;
-pub use faults::LayerDebug;
-pub use faults::LayerPartialEq;
-pub use faults::LettersFault;
-pub use faults::Place;
-pub use faults::PlaceDebug;
-pub use faults::PlacePartialEq;
+pub use faults::{Fault, Layer, LettersFault, Place};
 pub use itemizing::taken_apart;
 pub use items::Items;
 pub use lettering::letters;
-pub use lines::Line;
-pub use lines::Reader;
+pub use lines::{Line, Reader};
 pub use parts::Part;

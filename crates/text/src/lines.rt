@@ -1,6 +1,5 @@
-ghost use Prim.Native.Nat.{_+_, _≤_};
-ghost use denote.Ref.{now as at};
-ghost use lib.ListN.{length};
+ghost use Rattle.std.specs.Prelude.{◌+◌, ◌≤◌, length};
+
 use crate::faults::Place;
 use crate::parts::Part;
 
@@ -16,6 +15,6 @@ pub struct Line<'a> {
 pub struct Reader<'a> {
     pub(crate) text: &'a [u8],
     pub(crate) place: Place,
-    ghost within: { place .byte ≤ length (at text) },
-    ghost counts: { place .line ≤ place .byte + 1 },
+    ghost within: { place.byte ≤ length text.now },
+    ghost counts: { place.line ≤ place.byte + 1 },
 }

@@ -1,13 +1,14 @@
 // The bytes of a part, and where it begins and ends.
-ghost use mathlib.Core.Path.{_≡_};
-ghost use Rattle·text·specs.Parts.{behind, bytes-of, place-of};
+ghost use Rattle.std.specs.Prelude.{◌≡◌};
+ghost use Rattle.text.specs.Parts.{behind, bytes_of, place_of};
+
 use crate::faults::Place;
 use crate::parts::Part;
 
 impl<'a> Part<'a> {
     // The bytes of the part.
     pub fn bytes(&self) -> &'a [u8]
-        ensures { λ r. ⌜ now r ≡ bytes-of (now (self .entry)) ⌝ }
+        ensures { result.now ≡ bytes_of self.now }
     {
         let end = self.end.min(self.text.len());
         let start = self.start.min(end);
@@ -16,7 +17,7 @@ impl<'a> Part<'a> {
 
     // The place of its first byte.
     pub fn place(&self) -> Place
-        ensures { λ r. ⌜ r ≡ place-of (now (self .entry)) ⌝ }
+        ensures { result ≡ place_of self.now }
     {
         Place {
             line: self.line,
@@ -26,7 +27,7 @@ impl<'a> Part<'a> {
 
     // The byte behind its last one.
     pub fn behind(&self) -> usize
-        ensures { λ r. ⌜ r ≡ behind (now (self .entry)) ⌝ }
+        ensures { result ≡ behind self.now }
     {
         self.end.min(self.text.len()).max(self.start)
     }

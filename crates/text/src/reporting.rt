@@ -1,14 +1,13 @@
 // Faults as they are reported.
-ghost use mathlib.Core.Path.{_≡_};
-ghost use Rattle·text·specs.Faults.{fault};
-use crate::faults::Fault;
-use crate::faults::Layer;
-use crate::faults::Place;
+ghost use Rattle.std.specs.Prelude.{◌≡◌};
+ghost use Rattle.text.specs.Faults.{fault};
+
+use crate::faults::{Fault, Layer, Place};
 
 impl Fault {
     // A fault with no row.
     pub fn new(number: u32, layer: Layer, place: Place) -> Fault
-        ensures { λ r. ⌜ r ≡ fault number layer place ⌝ }
+        ensures { result ≡ fault number layer place }
     {
         Fault {
             number,

@@ -1,18 +1,16 @@
 // A text's lines, handed out one after the other as parts of the text.
-ghost use mathlib.Core.Path.{_≡_};
-ghost use Prim.Native.Nat.{_+_, _≤_};
-ghost use lib.ListN.{length, drop};
-ghost use Rattle·text·specs.Lines.{first-place, Hands-out, line-length, lines, lines-left};
+ghost use Rattle.std.specs.Prelude.{◌≡◌, ◌+◌, ◌≤◌, length, drop};
+ghost use Rattle.text.specs.Lines.{first_place, HandsOut, line_length, lines, lines_left};
+
 use crate::faults::Place;
-use crate::lines::Line;
-use crate::lines::Reader;
+use crate::lines::{Line, Reader};
 use crate::parts::Part;
 
 // Where the line that begins at `from` ends: at the next byte 10, or with the text.
 fn line_end(text: &[u8], from: usize) -> usize
-    requires { ⌜ from ≤ length (now text) ⌝ }
-    ensures value { λ r. ⌜ r ≡ from + line-length (drop from (now (text .entry))) ⌝ }
-    ensures within { λ r. ⌜ r ≤ length (now (text .entry)) ⌝ }
+    requires { from ≤ length text.now }
+    ensures value { result ≡ from + line_length (drop from text.now) }
+    ensures within { result ≤ length text.now }
 {
     for end in from..text.len() {
         if text[end] == b'\n' {
@@ -25,7 +23,7 @@ fn line_end(text: &[u8], from: usize) -> usize
 impl<'a> Reader<'a> {
     // A reader at the beginning of a text.
     pub fn new(text: &'a [u8]) -> Reader<'a>
-        ensures { λ r. ⌜ lines-left r ≡ lines first-place (now (text .entry)) ⌝ ∗ ⌜ r .text .now ≡ now (text .entry) ⌝ ∗ ⌜ r .place ≡ first-place ⌝ }
+        ensures { (lines_left result ≡ lines first_place text.now) × ((result.text.now ≡ text.now) × (result.place ≡ first_place)) }
     {
         Reader {
             text,
@@ -35,14 +33,14 @@ impl<'a> Reader<'a> {
 
     // Where the next line begins.
     pub fn place(&self) -> Place
-        ensures { λ r. ⌜ r ≡ now (self .entry) .place ⌝ }
+        ensures { result ≡ self.now.place }
     {
         self.place
     }
 
     // The next line, as a part of the text.
     pub fn next(&mut self) -> Option<Line<'a>>
-        ensures { λ r. ⌜ Hands-out (now (self .entry)) r (now (self .exit)) ⌝ }
+        ensures { HandsOut self.old result self.new }
     {
         let text = self.text;
         let place = self.place;

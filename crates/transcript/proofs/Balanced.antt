@@ -1,67 +1,62 @@
 -- What a run of a sheet leaves waiting is what was accepted, and neither served nor withdrawn.
-use Prim.Native.Nat.{ℕ, _+_}
-use mathlib.Core.Path.{_≡_, refl, ap, _∙_}
-use mathlib.Core.List.{List, [], _∷_, _++_}
-use native.Mathlib.Omega.{arith}
-use lib.ListN.{length}
-use Rattle·std.specs.declared.option.Option.{Option}
-use Rattle·dispatcher.specs.Scripts.{calls-of, trace-of}
-use Rattle·dispatcher.specs.declared.entries.Entry.{Entry}
-use Rattle·model.proofs.Totals.{totals-balance}
-use Rattle·model.specs.Histories.{Chosen}
-use Rattle·model.specs.Machine.{State}
-use Rattle·model.specs.Queues.{Sound, distinct, names-right}
-use Rattle·model.specs.Runs.{Trace}
-use Rattle·model.specs.Totals.{total-accepted, total-served, total-units, total-withdrawn}
-use Rattle·model.specs.declared.calls.Call.{Call}
-use Rattle·model.specs.declared.duties.Duty.{Duty}
-use Rattle·model.specs.declared.errands.Errand.{Errand}
-use Rattle·rendering.specs.Renderings.{duty-lines, left-over, run-lines}
-use Rattle·sheet.specs.Sheets.{Set}
-use Rattle·transcript·specs.Schedules.{script-of}
-use Rattle·transcript·specs.Transcripts.{Ran, Transcript, called, rule-of}
+use Rattle.std.proofs.Common.{◌≡◌, ℕ, ◌+◌, List, [], ◌∷◌, ◌++◌, length, Option, refl, ap, ◌∙◌, arith}
+use Rattle.dispatcher.specs.Scripts.{calls_of, trace_of}
+use Rattle.dispatcher.specs.declared.entries.Entry.{Entry}
+use Rattle.model.proofs.Totals.{totals_balance}
+use Rattle.model.specs.Histories.{Chosen}
+use Rattle.model.specs.Machine.{State}
+use Rattle.model.specs.Queues.{Sound, distinct, names_right}
+use Rattle.model.specs.Runs.{Trace}
+use Rattle.model.specs.Totals.{total_accepted, total_served, total_units, total_withdrawn}
+use Rattle.model.specs.declared.calls.Call.{Call}
+use Rattle.model.specs.declared.duties.Duty.{Duty}
+use Rattle.model.specs.declared.errands.Errand.{Errand}
+use Rattle.rendering.specs.Renderings.{duty_lines, left_over, run_lines}
+use Rattle.sheet.specs.Sheets.{Set}
+use Rattle.transcript.specs.Schedules.{script_of}
+use Rattle.transcript.specs.Transcripts.{Ran, Transcript, called, rule_of}
 
 module _ (table : List Duty) (trace : Trace) (end : State) (ran : Ran table trace end) where
-  starts-sound : Sound (ran .start)
-  starts-sound =
+  starts_sound : Sound ran.start
+  starts_sound =
       record {
-        each-once = ap distinct (ran .empty);
-        few = omega (arith, ap length (ran .empty));
+        each_once = ap distinct ran.empty;
+        few = omega (arith, ap length ran.empty);
         names =
-            ap (λ (es : List Errand). names-right es (ran .start .named)) (ran .empty)
-            ∙ ap (λ (named : Option ℕ). names-right [] named) (ran .names-none);
+            ap (λ (es : List Errand). names_right es ran.start.named) ran.empty
+            ∙ ap (λ (named : Option ℕ). names_right [] named) ran.names_none;
       }
 
-  balance : total-accepted trace ≡ total-served trace + total-withdrawn trace + total-units (end .queue .waiting)
-  balance = omega (arith, totals-balance table (ran .start) trace end starts-sound (ran .promise .follows), ap total-units (ran .empty))
+  balance : total_accepted trace ≡ total_served trace + total_withdrawn trace + total_units end.queue.waiting
+  balance = omega (arith, totals_balance table ran.start trace end starts_sound ran.promise.follows, ap total_units ran.empty)
 
-  pub left-over-waits : left-over trace ≡ total-units (end .queue .waiting)
-  left-over-waits = omega (arith, balance)
+  pub left_over_waits : left_over trace ≡ total_units end.queue.waiting
+  left_over_waits = omega (arith, balance)
 
-called-script : (script : List Entry) → called (trace-of script) ≡ calls-of script
-called-script [] = refl
-called-script (e ∷ es) = ap (λ (cs : List Call). e .call ∷ cs) (called-script es)
+called_script : (script : List Entry) → called (trace_of script) ≡ calls_of script
+called_script [] = refl
+called_script (e ∷ es) = ap (λ (cs : List Call). e.call ∷ cs) (called_script es)
 
 -- The parts of a transcript, put together.
-pub transcript-of : (text : List ℕ) (s : Set) (script : List Entry) (end : State) (start duties out : List ℕ)
-    → Ran (s .table) (trace-of script) end
-    → Chosen (rule-of (s .queue)) [] (trace-of script)
-    → calls-of script ≡ script-of text (s .ats) (s .ticks)
+pub transcript_of : (text : List ℕ) (s : Set) (script : List Entry) (end : State) (start duties out : List ℕ)
+    → Ran s.table (trace_of script) end
+    → Chosen (rule_of s.queue) [] (trace_of script)
+    → calls_of script ≡ script_of text s.ats s.ticks
     → start ≡ []
-    → duties ≡ start ++ duty-lines (s .table) (length (s .table))
-    → out ≡ duties ++ run-lines (trace-of script) (left-over (trace-of script))
+    → duties ≡ start ++ duty_lines s.table (length s.table)
+    → out ≡ duties ++ run_lines (trace_of script) (left_over (trace_of script))
     → Transcript text s out
-transcript-of text s script end start duties out ran chosen calls nothing rows run =
+transcript_of text s script end start duties out ran chosen calls nothing rows run =
     record {
-      trace = trace-of script;
+      trace = trace_of script;
       end = end;
       ran = ran;
       chosen = chosen;
-      calls = called-script script ∙ calls;
+      calls = called_script script ∙ calls;
       shows =
           run
-          ∙ ap (λ (bs : List ℕ). bs ++ run-lines (trace-of script) (left-over (trace-of script)))
-          (rows ∙ ap (λ (bs : List ℕ). bs ++ duty-lines (s .table) (length (s .table))) nothing)
-          ∙ ap (λ (waiting : ℕ). duty-lines (s .table) (length (s .table)) ++ run-lines (trace-of script) waiting)
-          (left-over-waits (s .table) (trace-of script) end ran);
+          ∙ ap (λ (bs : List ℕ). bs ++ run_lines (trace_of script) (left_over (trace_of script)))
+          (rows ∙ ap (λ (bs : List ℕ). bs ++ duty_lines s.table (length s.table)) nothing)
+          ∙ ap (λ (waiting : ℕ). duty_lines s.table (length s.table) ++ run_lines (trace_of script) waiting)
+          (left_over_waits s.table (trace_of script) end ran);
     }

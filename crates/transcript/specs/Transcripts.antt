@@ -1,45 +1,40 @@
 -- What is printed of a text: its fault, or the rendering of a run of the sheet that it is.
-use Prim.Native.Nat.{ℕ}
-use mathlib.Core.Path.{_≡_}
-use mathlib.Core.List.{List, [], map}
-use Rattle·std.specs.declared.option.Option.the-variants.{None}
-use Rattle·std.specs.declared.result.Result.{Result}
-use Rattle·std.specs.declared.result.Result.the-variants.{Ok, Err}
-use Rattle·model.specs.Histories.{Chosen, Rule}
-use Rattle·model.specs.Machine.{State}
-use Rattle·model.specs.Promise.{Promise}
-use Rattle·model.specs.Queues.{Meaning}
-use Rattle·model.specs.Runs.{Trace}
-use Rattle·model.specs.declared.calls.Answer.{Answer}
-use Rattle·model.specs.declared.calls.Call.{Call}
-use Rattle·model.specs.declared.duties.Duty.{Duty}
-use Rattle·queue.specs.Arrivals.{best-rated, earliest}
-use Rattle·sheet.specs.Sheets.{Set, sheet-of}
-use Rattle·text.specs.declared.faults.Fault.{Fault}
-use Rattle·forms.specs.declared.sayings.QueueName.{QueueName}
-use Rattle·forms.specs.declared.sayings.QueueName.the-variants.{First, Worth}
-use Rattle·rendering.specs.Lines.{fault-line}
-use Rattle·rendering.specs.Renderings.{rendered}
-use Rattle·transcript·specs.Schedules.{script-of}
+use Rattle.std.specs.Prelude.{◌≡◌, ℕ, List, [], map, None, Ok, Err, Result}
+use Rattle.model.specs.Histories.{Chosen, Rule}
+use Rattle.model.specs.Machine.{State}
+use Rattle.model.specs.Promise.{Promise}
+use Rattle.model.specs.Queues.{Meaning}
+use Rattle.model.specs.Runs.{Trace}
+use Rattle.model.specs.declared.calls.Answer.{Answer}
+use Rattle.model.specs.declared.calls.Call.{Call}
+use Rattle.model.specs.declared.duties.Duty.{Duty}
+use Rattle.queue.specs.Arrivals.{best_rated, earliest}
+use Rattle.sheet.specs.Sheets.{Set, sheet_of}
+use Rattle.text.specs.declared.faults.Fault.{Fault}
+use Rattle.forms.specs.declared.sayings.QueueName.{QueueName}
+use Rattle.forms.specs.declared.sayings.QueueName.TheVariants.{First, Worth}
+use Rattle.rendering.specs.Lines.{fault_line}
+use Rattle.rendering.specs.Renderings.{rendered}
+use Rattle.transcript.specs.Schedules.{script_of}
 
 -- The calls of a trace.
 abbrev pub called : Trace → List Call
-called = map (λ (x : Call × Answer). x .0)
+called = map (λ (x : Call × Answer). x.0)
 
 -- A trace over a table is that of a run, with all that is promised of one, from the fresh state over a queue in which
 -- nothing waits, that names nobody and that has 64 places.
 pub record Ran (table : List Duty) (trace : Trace) (end : State) : Type 0 where
   pub start : Meaning
-  pub empty : start .waiting ≡ []
-  pub names-none : start .named ≡ None
-  pub roomy : start .places ≡ 64
+  pub empty : start.waiting ≡ []
+  pub names_none : start.named ≡ None
+  pub roomy : start.places ≡ 64
   pub promise : Promise table start trace end
 
 -- The rule of a queue by its name: of the errands that wait, `first` serves the one that was put earliest, and `worth`
 -- the one with the most worth for the units that it was put with, on a tie the one that was put earlier.
-abbrev pub rule-of : QueueName → Rule
-rule-of First = earliest
-rule-of Worth = best-rated
+abbrev pub rule_of : QueueName → Rule
+rule_of First = earliest
+rule_of Worth = best_rated
 
 -- A text is printed of a sheet: the calls of the sheet's script were run over its table, each tick that an errand had
 -- went by the rule of the sheet's queue to one that the calls and answers before it determine, and this is the run's
@@ -47,15 +42,15 @@ rule-of Worth = best-rated
 pub record Transcript (text : List ℕ) (s : Set) (out : List ℕ) : Type 0 where
   pub trace : Trace
   pub end : State
-  pub ran : Ran (s .table) trace end
-  pub chosen : Chosen (rule-of (s .queue)) [] trace
-  pub calls : called trace ≡ script-of text (s .ats) (s .ticks)
-  pub shows : out ≡ rendered (s .table) trace end
+  pub ran : Ran s.table trace end
+  pub chosen : Chosen (rule_of s.queue) [] trace
+  pub calls : called trace ≡ script_of text s.ats s.ticks
+  pub shows : out ≡ rendered s.table trace end
 
-abbrev pub Printed-of : List ℕ → Result Set Fault → List ℕ → Type 0
-Printed-of text (Ok s) out = Transcript text s out
-Printed-of text (Err f) out = out ≡ fault-line f
+abbrev pub PrintedOf : List ℕ → Result Set Fault → List ℕ → Type 0
+PrintedOf text (Ok s) out = Transcript text s out
+PrintedOf text (Err f) out = out ≡ fault_line f
 
 -- What is printed of a text.
 abbrev pub Printed : List ℕ → List ℕ → Type 0
-Printed text out = Printed-of text (sheet-of text) out
+Printed text out = PrintedOf text (sheet_of text) out

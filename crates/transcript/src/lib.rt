@@ -1,4 +1,6 @@
 // What a sheet prints: the script of its at-lines, its run, and the text of the run.
+#![tactic(auto)]
+
 mod arranging;
 mod running;
 mod scheduling;

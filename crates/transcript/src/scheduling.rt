@@ -1,31 +1,23 @@
 // The script of a sheet: at each clock the calls of its at-lines, and then the tick.
-ghost use mathlib.Core.Path.{_≡_};
-ghost use mathlib.Core.Bool.{true};
-ghost use mathlib.Core.List.{_++_};
-ghost use lib.ListN.{drop};
-ghost use Rattle·std.specs.Of.Vec.{vec-items};
-ghost use Rattle·std.specs.Vec.{made};
-ghost use Rattle·std.specs.shelf.Lists.{joined};
-ghost use Rattle·dispatcher.specs.Scripts.{calls-of};
-ghost use Rattle·list.specs.Order.{sorted};
-ghost use Rattle·sheet.specs.Ats.{calls-of as calls-at};
-ghost use Rattle·transcript·specs.Schedules.{script-of};
-ghost use Rattle·transcript·specs.Timings.{due, earlier, later, lines-of};
-use crate::arranging::ByClock;
+ghost use Rattle.std.specs.Prelude.{◌≡◌, true, ◌++◌, drop, IfOk, OnOk};
+ghost use Rattle.std.specs.List.{flat_map};
+ghost use Rattle.dispatcher.specs.Scripts.{calls_of};
+ghost use Rattle.list.specs.Order.{sorted};
+ghost use Rattle.sheet.specs.Ats.{calls_of as calls_at};
+ghost use Rattle.transcript.specs.Schedules.{script_of};
+ghost use Rattle.transcript.specs.Timings.{due, earlier, later, lines_of};
+
 use crate::arranging::arrange;
 use crate::timings::Timed;
 use dispatcher::Entry;
 use list::OrderedList;
-use model::Answer;
-use model::Call;
-use sheet::At;
-use sheet::Calls;
-use std::alloc::AllocError;
-use std::alloc::Global;
+use model::{Answer, Call};
+use sheet::{At, Calls};
+use std::alloc::{AllocError, Global};
 
 // A call that is yet to be made; its answer is written over.
 fn pending(call: Call) -> Entry
-    ensures { λ r. ⌜ r .call ≡ call ⌝ }
+    ensures { result.call ≡ call }
 {
     Entry {
         call,
@@ -35,7 +27,7 @@ fn pending(call: Call) -> Entry
 
 // Adds the calls of an at-line.
 fn push_calls(script: &mut Vec<Entry>, text: &[u8], at: At) -> Result<(), AllocError>
-    ensures { λ r. ⌜ made r (λ _. calls-of (vec-items (now (script .exit))) ≡ calls-of (vec-items (now (script .entry))) ++ calls-at (now (text .entry)) at) ⌝ }
+    ensures { OnOk result (calls_of script.new.items ≡ calls_of script.old.items ++ calls_at text.now at) }
 {
     let mut calls = Calls::new(text, at);
     while let Some(call) = calls.next() {
@@ -52,8 +44,8 @@ fn push_due(
     mut next: usize,
     clock: u32,
 ) -> Result<usize, AllocError>
-    ensures calls { λ r. ⌜ made r (λ _. calls-of (vec-items (now (script .exit))) ≡ calls-of (vec-items (now (script .entry))) ++ joined (calls-at (now (text .entry))) (lines-of (due clock (drop next (now (line .entry)))))) ⌝ }
-    ensures rest { λ r. ⌜ made r (λ after. drop after (now (line .entry)) ≡ later clock (drop next (now (line .entry)))) ⌝ }
+    ensures calls { OnOk result (calls_of script.new.items ≡ calls_of script.old.items ++ flat_map (calls_at text.now) (lines_of (due clock (drop next line.now)))) }
+    ensures rest { IfOk result (λ after. drop after line.now ≡ later clock (drop next line.now)) }
 {
     while next < line.len() && line[next].at.clock == clock {
         push_calls(script, text, line[next].at)?;
@@ -69,8 +61,8 @@ pub(crate) fn schedule(
     line: &[Timed],
     ticks: u32,
 ) -> Result<Vec<Entry>, AllocError>
-    requires { ⌜ sorted earlier (now line) ≡ true ⌝ }
-    ensures { λ r. ⌜ made r (λ script. calls-of (vec-items script) ≡ script-of (now (text .entry)) (lines-of (now (line .entry))) ticks) ⌝ }
+    requires { sorted earlier line.now ≡ true }
+    ensures { IfOk result (λ script. calls_of script.items ≡ script_of text.now (lines_of line.now) ticks) }
 {
     let mut script = Vec::new(heap);
     let mut next = 0;
@@ -88,7 +80,7 @@ pub(crate) fn script(
     ats: &[At],
     ticks: u32,
 ) -> Result<Vec<Entry>, AllocError>
-    ensures { λ r. ⌜ made r (λ script. calls-of (vec-items script) ≡ script-of (now (text .entry)) (now (ats .entry)) ticks) ⌝ }
+    ensures { IfOk result (λ script. calls_of script.items ≡ script_of text.now ats.now ticks) }
 {
     let mut slots = vec![in heap; Timed::free(); ats.len()]?;
     let mut list = OrderedList::new(slots.as_mut_slice());

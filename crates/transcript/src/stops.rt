@@ -1,6 +1,7 @@
 // Why no transcript was made.
-ghost use mathlib.Core.Path.{_≡_};
-ghost use Rattle·transcript·specs.declared.stops.Stop.the-variants.{Fault as For-fault, Memory as For-memory};
+ghost use Rattle.std.specs.Prelude.{◌≡◌};
+ghost use Rattle.transcript.specs.declared.stops.Stop.TheVariants.{Fault as ForFault, Memory as ForMemory};
+
 use std::alloc::AllocError;
 use text::Fault;
 
@@ -12,16 +13,16 @@ pub(crate) enum Stop {
     Memory,
 }
 
-pub impl From<Fault> for Stop as StopFromFault {
-    ghost converts = { λ fault stop. stop ≡ For-fault fault };
+impl From<Fault> for Stop {
+    ghost from_gives = { λ fault stop. stop ≡ ForFault fault };
 
     fn from(fault: Fault) -> Stop {
         Stop::Fault(fault)
     }
 }
 
-pub impl From<AllocError> for Stop as StopFromAlloc {
-    ghost converts = { λ _ stop. stop ≡ For-memory };
+impl From<AllocError> for Stop {
+    ghost from_gives = { λ _ stop. stop ≡ ForMemory };
 
     fn from(_: AllocError) -> Stop {
         Stop::Memory

@@ -1,13 +1,14 @@
 // Reads a sheet from standard input and prints its transcript, or the one fault that it has.
+#![tactic(auto)]
+
 use std::io;
-use std::io::Read;
-use std::io::Write;
+use std::io::{Read, Write};
 use transcript::transcript;
 
 // One byte more than a sheet may have: what is longer need not be read to its end.
 const MOST_READ: u64 = 32769;
 
-fn main(rt: LibcRuntime) -> io::Result<()> {
+fn main(rt: HostRuntime) -> io::Result<()> {
     let heap = rt.alloc();
     let mut text = Vec::new(heap);
     rt.stdin().take(MOST_READ).read_to_end(&mut text)?;

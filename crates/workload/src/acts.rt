@@ -1,16 +1,14 @@
 // What calls do to a row.
-ghost use mathlib.Core.Path.{_≡_};
-ghost use Rattle·model.specs.Machine.{first-ready, released, row-refusal};
-ghost use Rattle·model.specs.Refusals.{refusal};
-ghost use Rattle·workload·specs.Acts.{acted};
-use model::Duty;
-use model::Refusal;
-use model::Row;
-use model::RowCall;
+ghost use Rattle.std.specs.Prelude.{◌≡◌};
+ghost use Rattle.model.specs.Machine.{first_ready, released, row_refusal};
+ghost use Rattle.model.specs.Refusals.{refusal};
+ghost use Rattle.workload.specs.Acts.{acted};
+
+use model::{Duty, Refusal, Row, RowCall};
 
 // A row as its release leaves it.
 fn released(duty: Duty, clock: u32) -> Row
-    ensures { λ r. ⌜ r ≡ released duty clock ⌝ }
+    ensures { result ≡ released duty clock }
 {
     let clock = u64::from(clock);
     Row::Ready {
@@ -22,8 +20,8 @@ fn released(duty: Duty, clock: u32) -> Row
 
 // What a call does to a row goes by the row's state and the call together.
 pub(crate) fn act(row: &mut Row, call: RowCall, duty: Duty, clock: u32) -> Result<(), Refusal>
-    ensures answers { λ r. ⌜ refusal r ≡ row-refusal clock (now (row .entry)) call ⌝ }
-    ensures leaves { λ _. ⌜ now (row .exit) ≡ acted duty clock (now (row .entry)) call ⌝ }
+    ensures answers { refusal result ≡ row_refusal clock row.old call }
+    ensures leaves { row.new ≡ acted duty clock row.old call }
 {
     let now = u64::from(clock);
     match (*row, call) {
@@ -63,7 +61,7 @@ pub(crate) fn act(row: &mut Row, call: RowCall, duty: Duty, clock: u32) -> Resul
 
 // The ready row with the smallest number.
 pub(crate) fn first_ready(rows: &[Row]) -> Option<usize>
-    ensures { λ r. ⌜ r ≡ first-ready (now (rows .entry)) ⌝ }
+    ensures { result ≡ first_ready rows.now }
 {
     for (i, row) in rows.iter().enumerate() {
         if let Row::Ready { .. } = row {

@@ -1,29 +1,24 @@
 // A workload begins fresh, and goes on by releases, dones and ticks.
-ghost use mathlib.Core.Path.{_≡_};
-ghost use lib.ListN.{length, replicate};
-ghost use Prim.Native.Nat.{_+_, _<_};
-ghost use Rattle·model.specs.Machine.{duty-tick, first-ready, last-clock, rows-after};
-ghost use Rattle·model.specs.declared.rows.Row.the-variants.{Idle};
-ghost use Rattle·model.specs.declared.rows.RowCall.the-variants.{Release, Done, Run};
-ghost use Rattle·std.specs.declared.option.Option.the-variants.{Some};
-ghost use Rattle·table.specs.Settings.{table-of};
-ghost use Rattle·workload·specs.Acts.{Row-asked, Ticked, turn-of};
-ghost use Rattle·workload·specs.Workloads.{rows-in, table-in};
-use crate::acts::act;
-use crate::acts::first_ready;
+ghost use Rattle.std.specs.Prelude.{◌≡◌, ◌+◌, ◌<◌, length, replicate, Some};
+ghost use Rattle.model.specs.Machine.{duty_tick, first_ready, last_clock, rows_after};
+ghost use Rattle.model.specs.declared.rows.Row.TheVariants.{Idle};
+ghost use Rattle.model.specs.declared.rows.RowCall.TheVariants.{Release, Done, Run};
+ghost use Rattle.table.specs.Settings.{table_of};
+ghost use Rattle.workload.specs.Acts.{RowAsked, Ticked, turn_of};
+ghost use Rattle.workload.specs.Workloads.{rows_in, table_in};
+
+use crate::acts::{act, first_ready};
 use crate::turns::Turn;
 use crate::workloads::Workload;
-use model::Refusal;
-use model::Row;
-use model::RowCall;
+use model::{Refusal, Row, RowCall};
 use table::Setting;
 
 impl Workload {
     // At the start the clock is 0 and every row is idle and may be released at once.
     pub fn start(setting: Setting) -> Workload
-        ensures table { λ r. ⌜ table-in r ≡ table-of setting ⌝ }
-        ensures rows { λ r. ⌜ rows-in r ≡ replicate (length (table-of setting)) (Idle 0) ⌝ }
-        ensures clock { λ r. ⌜ r .clock ≡ 0 ⌝ }
+        ensures table { table_in result ≡ table_of setting }
+        ensures rows { rows_in result ≡ replicate (length (table_of setting)) (Idle 0) }
+        ensures clock { result.clock ≡ 0 }
     {
         Workload {
             setting,
@@ -33,19 +28,19 @@ impl Workload {
     }
 
     pub fn release(&mut self, row: u32) -> Result<(), Refusal>
-        ensures { λ r. ⌜ Row-asked (now (self .entry)) row Release r (now (self .exit)) ⌝ }
+        ensures { RowAsked self.old row Release result self.new }
     {
         self.ask(row, RowCall::Release)
     }
 
     pub fn done(&mut self, row: u32) -> Result<(), Refusal>
-        ensures { λ r. ⌜ Row-asked (now (self .entry)) row Done r (now (self .exit)) ⌝ }
+        ensures { RowAsked self.old row Done result self.new }
     {
         self.ask(row, RowCall::Done)
     }
 
     fn ask(&mut self, row: u32, call: RowCall) -> Result<(), Refusal>
-        ensures { λ r. ⌜ Row-asked (now (self .entry)) row call r (now (self .exit)) ⌝ }
+        ensures { RowAsked self.old row call result self.new }
     {
         let duties = self.setting.rows();
         let row = row as usize;
@@ -60,7 +55,7 @@ impl Workload {
     // One tick. It is to spare exactly if an errand waits and the slack is at least 1; otherwise the first ready row
     // has it, or nobody.
     pub fn tick(&mut self, errand_waits: bool) -> Result<(u32, Turn), Refusal>
-        ensures { λ r. ⌜ Ticked (now (self .entry)) «errand_waits» r (now (self .exit)) ⌝ }
+        ensures { Ticked self.old errand_waits result self.new }
     {
         let clock = self.clock;
         if clock == u32::MAX {
@@ -77,11 +72,11 @@ impl Workload {
 
     // The first ready row has a tick, or nobody.
     fn run(&mut self) -> Turn
-        requires { ⌜ now self .clock < last-clock ⌝ }
-        ensures turn { λ r. ⌜ r ≡ turn-of (first-ready (rows-in (now (self .entry)))) ⌝ }
-        ensures rows { λ _. ⌜ rows-in (now (self .exit)) ≡ duty-tick (table-in (now (self .entry))) (now (self .entry) .clock) (rows-in (now (self .entry))) ⌝ }
-        ensures table { λ _. ⌜ table-in (now (self .exit)) ≡ table-in (now (self .entry)) ⌝ }
-        ensures clock { λ _. ⌜ now (self .exit) .clock ≡ now (self .entry) .clock + 1 ⌝ }
+        requires { self.old.clock < last_clock }
+        ensures turn { result ≡ turn_of (first_ready (rows_in self.old)) }
+        ensures rows { rows_in self.new ≡ duty_tick (table_in self.old) self.old.clock (rows_in self.old) }
+        ensures table { table_in self.new ≡ table_in self.old }
+        ensures clock { self.new.clock ≡ self.old.clock + 1 }
     {
         match self.next_row() {
             Some(row) => {
@@ -97,7 +92,7 @@ impl Workload {
 
     // The first ready row.
     fn next_row(&self) -> Option<usize>
-        ensures { λ r. ⌜ r ≡ first-ready (rows-in (now (self .entry))) ⌝ }
+        ensures { result ≡ first_ready (rows_in self.now) }
     {
         let len = self.setting.rows().len();
         first_ready(&self.rows[0..len])
@@ -105,10 +100,10 @@ impl Workload {
 
     // Gives a tick to the first ready row.
     fn run_row(&mut self, row: usize)
-        requires { ⌜ now self .clock < last-clock ⌝ ∗ ⌜ first-ready (rows-in (now self)) ≡ Some row ⌝ }
-        ensures rows { λ _. ⌜ rows-in (now (self .exit)) ≡ rows-after (table-in (now (self .entry))) (now (self .entry) .clock) (rows-in (now (self .entry))) row Run ⌝ }
-        ensures table { λ _. ⌜ table-in (now (self .exit)) ≡ table-in (now (self .entry)) ⌝ }
-        ensures clock { λ _. ⌜ now (self .exit) .clock ≡ now (self .entry) .clock + 1 ⌝ }
+        requires { (self.old.clock < last_clock) × (first_ready (rows_in self.old) ≡ Some row) }
+        ensures rows { rows_in self.new ≡ rows_after (table_in self.old) self.old.clock (rows_in self.old) row Run }
+        ensures table { table_in self.new ≡ table_in self.old }
+        ensures clock { self.new.clock ≡ self.old.clock + 1 }
     {
         let duty = self.setting.rows()[row];
         let clock = self.clock;

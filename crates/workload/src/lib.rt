@@ -1,4 +1,6 @@
 // The hard side of the dispatcher: a table, the state of each of its rows and the clock, with the exact slack.
+#![tactic(auto)]
+
 mod acts;
 mod asking;
 mod slack;

@@ -1,23 +1,20 @@
 // The exact slack of a workload.
-ghost use mathlib.Core.Path.{_≡_};
-ghost use mathlib.Core.Bool.{true};
-ghost use Prim.Native.Nat.{_+_, _-_, _≤_};
-ghost use lib.ListN.{length, take};
-ghost use Rattle·model.specs.Kept.{kept, row-kept};
-ghost use Rattle·model.specs.Reckoning.{next-release, table-slack, window-end};
-ghost use Rattle·model.specs.Table.{admitted, within-limits};
-ghost use Rattle·workload·specs.Streams.{stream-of, streams-of};
-ghost use Rattle·workload·specs.Workloads.{rows-in, table-in};
+ghost use Rattle.std.specs.Prelude.{◌≡◌, ◌+◌, ◌-◌, ◌≤◌, true, length, take};
+ghost use Rattle.model.specs.Kept.{kept, row_kept};
+ghost use Rattle.model.specs.Reckoning.{next_release, table_slack, window_end};
+ghost use Rattle.model.specs.Table.{admitted, within_limits};
+ghost use Rattle.workload.specs.Streams.{stream_of, streams_of};
+ghost use Rattle.workload.specs.Workloads.{rows_in, table_in};
+
 use crate::streams::Stream;
 use crate::stretches::idle_ticks;
 use crate::workloads::Workload;
-use model::Duty;
-use model::Row;
+use model::{Duty, Row};
 
 // What a row asks for from the clock on, with the releases for the clock over.
 fn stream(duty: Duty, row: Row, clock: u32) -> Stream
-    requires { ⌜ within-limits duty ≡ true ⌝ ∗ ⌜ row-kept clock duty row ≡ true ⌝ ∗ ⌜ clock ≤ next-release (clock + 1) row ⌝ }
-    ensures { λ r. ⌜ r ≡ stream-of clock duty row ⌝ }
+    requires { (within_limits duty ≡ true) × ((row_kept clock duty row ≡ true) × (clock ≤ next_release (clock + 1) row)) }
+    ensures { result ≡ stream_of clock duty row }
 {
     let clock = u64::from(clock);
     let (left, next) = match row {
@@ -34,8 +31,8 @@ fn stream(duty: Duty, row: Row, clock: u32) -> Stream
 
 // What the rows ask for, in the first of sixteen slots.
 fn streams(duties: &[Duty], rows: &[Row], clock: u32) -> [Stream; 16]
-    requires { ⌜ admitted (now duties) ≡ true ⌝ ∗ ⌜ kept clock (now duties) (now rows) ≡ true ⌝ }
-    ensures { λ r. ⌜ take (length (now (duties .entry))) r ≡ streams-of clock (now (duties .entry)) (now (rows .entry)) ⌝ }
+    requires { (admitted duties.now ≡ true) × (kept clock duties.now rows.now ≡ true) }
+    ensures { take (length duties.now) result ≡ streams_of clock duties.now rows.now }
 {
     let none = Stream {
         left: 0,
@@ -52,9 +49,9 @@ fn streams(duties: &[Duty], rows: &[Row], clock: u32) -> [Stream; 16]
 
 // The ticks from the clock to the end of a row's window.
 fn window(duty: Duty, row: Row, clock: u32) -> u32
-    requires { ⌜ within-limits duty ≡ true ⌝ ∗ ⌜ row-kept clock duty row ≡ true ⌝ ∗ ⌜ clock ≤ window-end (clock + 1) duty row ⌝ }
-    ensures value { λ r. ⌜ r ≡ window-end (clock + 1) duty row - clock ⌝ }
-    ensures bound { λ r. ⌜ r ≤ 8192 ⌝ }
+    requires { (within_limits duty ≡ true) × ((row_kept clock duty row ≡ true) × (clock ≤ window_end (clock + 1) duty row)) }
+    ensures value { result ≡ window_end (clock + 1) duty row - clock }
+    ensures bound { result ≤ 8192 }
 {
     let clock = u64::from(clock);
     let end = match row {
@@ -66,8 +63,8 @@ fn window(duty: Duty, row: Row, clock: u32) -> u32
 
 // The least slack over the rows, 65,535 if there are none.
 fn table_slack(duties: &[Duty], rows: &[Row], clock: u32) -> u32
-    requires { ⌜ admitted (now duties) ≡ true ⌝ ∗ ⌜ kept clock (now duties) (now rows) ≡ true ⌝ }
-    ensures { λ r. ⌜ r ≡ table-slack (clock + 1) clock (now (duties .entry)) (now (rows .entry)) ⌝ }
+    requires { (admitted duties.now ≡ true) × (kept clock duties.now rows.now ≡ true) }
+    ensures { result ≡ table_slack (clock + 1) clock duties.now rows.now }
 {
     let streams = streams(duties, rows, clock);
     let mut least: u32 = 65535;
@@ -81,7 +78,7 @@ fn table_slack(duties: &[Duty], rows: &[Row], clock: u32) -> u32
 impl Workload {
     // The table's slack, with the releases for the clock over.
     pub fn slack(&self) -> u32
-        ensures { λ r. ⌜ r ≡ table-slack (now (self .entry) .clock + 1) (now (self .entry) .clock) (table-in (now (self .entry))) (rows-in (now (self .entry))) ⌝ }
+        ensures { result ≡ table_slack (self.now.clock + 1) self.now.clock (table_in self.now) (rows_in self.now) }
     {
         let duties = self.setting.rows();
         table_slack(duties, &self.rows[0..duties.len()], self.clock)

@@ -1,16 +1,14 @@
 // Idle ticks of a window, reckoned by stretches: longest runs of busy or of idle ticks.
-ghost use mathlib.Core.Path.{_≡_};
-ghost use mathlib.Core.Bool.{true};
-ghost use Prim.Native.Nat.{_+_, _-_, _<_, _≤_};
-ghost use lib.ListN.{length};
-ghost use Rattle·model.specs.Idle.{idle-ticks};
-ghost use Rattle·workload·specs.Streams.{all-ask, all-tame, asks, tame};
+ghost use Rattle.std.specs.Prelude.{◌≡◌, ◌+◌, ◌-◌, ◌<◌, ◌≤◌, true, length};
+ghost use Rattle.model.specs.Idle.{idle_ticks};
+ghost use Rattle.workload.specs.Streams.{all_ask, all_tame, asks, tame};
+
 use crate::streams::Stream;
 
 // What a stream asks for within `ticks` ticks.
 fn asks(stream: Stream, ticks: u32) -> u32
-    requires { ⌜ tame stream ≡ true ⌝ ∗ ⌜ ticks ≤ 8193 ⌝ }
-    ensures { λ r. ⌜ r ≡ asks stream ticks ⌝ }
+    requires { (tame stream ≡ true) × (ticks ≤ 8193) }
+    ensures { result ≡ asks stream ticks }
 {
     let ahead = ticks.saturating_sub(stream.first);
     stream.left + stream.cost * ((ahead + (stream.separation - 1)) / stream.separation)
@@ -18,9 +16,9 @@ fn asks(stream: Stream, ticks: u32) -> u32
 
 // What the streams ask for within `ticks` ticks.
 fn all_ask(streams: &[Stream], ticks: u32) -> u32
-    requires { ⌜ all-tame (now streams) ≡ true ⌝ ∗ ⌜ length (now streams) ≤ 16 ⌝ ∗ ⌜ ticks ≤ 8193 ⌝ }
-    ensures sum { λ r. ⌜ r ≡ all-ask (now (streams .entry)) ticks ⌝ }
-    ensures bound { λ r. ⌜ r ≤ 1000000000 ⌝ }
+    requires { (all_tame streams.now ≡ true) × ((length streams.now ≤ 16) × (ticks ≤ 8193)) }
+    ensures sum { result ≡ all_ask streams.now ticks }
+    ensures bound { result ≤ 1000000000 }
 {
     let mut sum = 0;
     for stream in streams {
@@ -31,11 +29,11 @@ fn all_ask(streams: &[Stream], ticks: u32) -> u32
 
 // The first clock from `ticks` on at which a stream begins a job, or `end`.
 fn quiet_until(streams: &[Stream], ticks: u32, end: u32) -> u32
-    requires { ⌜ all-tame (now streams) ≡ true ⌝ ∗ ⌜ length (now streams) ≤ 16 ⌝ ∗ ⌜ ticks ≤ end ⌝ ∗ ⌜ end ≤ 8193 ⌝ }
-    ensures quiet { λ r. ⌜ all-ask (now (streams .entry)) r ≡ all-ask (now (streams .entry)) ticks ⌝ }
-    ensures job { λ r. ⌜ (r < end → all-ask (now (streams .entry)) r < all-ask (now (streams .entry)) (r + 1)) ⌝ }
-    ensures low { λ r. ⌜ ticks ≤ r ⌝ }
-    ensures high { λ r. ⌜ r ≤ end ⌝ }
+    requires { (all_tame streams.now ≡ true) × ((length streams.now ≤ 16) × ((ticks ≤ end) × (end ≤ 8193))) }
+    ensures quiet { all_ask streams.now result ≡ all_ask streams.now ticks }
+    ensures job { result < end → all_ask streams.now result < all_ask streams.now (result + 1) }
+    ensures low { ticks ≤ result }
+    ensures high { result ≤ end }
 {
     let mut until = end;
     for stream in streams {
@@ -46,10 +44,10 @@ fn quiet_until(streams: &[Stream], ticks: u32, end: u32) -> u32
 
 // The first job of a stream at `ticks` or later.
 fn next_job(stream: Stream, ticks: u32) -> u32
-    requires { ⌜ tame stream ≡ true ⌝ ∗ ⌜ ticks ≤ 8193 ⌝ }
-    ensures same { λ r. ⌜ asks stream r ≡ asks stream ticks ⌝ }
-    ensures job { λ r. ⌜ asks stream r < asks stream (r + 1) ⌝ }
-    ensures low { λ r. ⌜ ticks ≤ r ⌝ }
+    requires { (tame stream ≡ true) × (ticks ≤ 8193) }
+    ensures same { asks stream result ≡ asks stream ticks }
+    ensures job { asks stream result < asks stream (result + 1) }
+    ensures low { ticks ≤ result }
 {
     if ticks <= stream.first {
         return stream.first;
@@ -62,8 +60,8 @@ fn next_job(stream: Stream, ticks: u32) -> u32
 // to its end, and the idle ticks before it, fill it; an idle stretch goes on until the next job. Both are left the
 // moment the window's end is reached.
 pub(crate) fn idle_ticks(streams: &[Stream], end: u32) -> u32
-    requires { ⌜ all-tame (now streams) ≡ true ⌝ ∗ ⌜ length (now streams) ≤ 16 ⌝ ∗ ⌜ end ≤ 8192 ⌝ }
-    ensures { λ r. ⌜ r ≡ idle-ticks (all-ask (now (streams .entry))) end ⌝ }
+    requires { (all_tame streams.now ≡ true) × ((length streams.now ≤ 16) × (end ≤ 8192)) }
+    ensures { result ≡ idle_ticks (all_ask streams.now) end }
 {
     let mut at = 0;
     let mut idle = 0;

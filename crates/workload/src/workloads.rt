@@ -1,8 +1,7 @@
-ghost use mathlib.Core.Path.{_≡_};
-ghost use mathlib.Core.Bool.{true};
-ghost use lib.ListN.{length, take};
-ghost use Rattle·model.specs.Kept.{kept};
-ghost use Rattle·table.specs.Settings.{table-of};
+ghost use Rattle.std.specs.Prelude.{◌≡◌, true, length, take};
+ghost use Rattle.model.specs.Kept.{kept};
+ghost use Rattle.table.specs.Settings.{table_of};
+
 use model::Row;
 use table::Setting;
 
@@ -12,5 +11,5 @@ pub struct Workload {
     pub(crate) setting: Setting,
     pub(crate) rows: [Row; 16],
     pub(crate) clock: u32,
-    ghost keeps: { kept clock (table-of setting) (take (length (table-of setting)) rows) ≡ true },
+    ghost keeps: { kept clock (table_of setting) (take (length (table_of setting)) rows) ≡ true },
 }

@@ -1,31 +1,24 @@
-ghost use mathlib.Core.Path.{_≡_};
-ghost use mathlib.Core.List.{[]};
-ghost use lib.ListN.{take};
-ghost use Rattle·model.specs.Histories.{Goes-on, by-put, by-spend, by-take};
-ghost use Rattle·model.specs.Queues.{Put, Spend, Take};
-ghost use Rattle·list.specs.Held.{held};
-ghost use Rattle·queue·specs.Arrivals.{best-rated};
-ghost use Rattle·queue·specs.Lines.{line-meaning, line-sound, Kept-if-refused, Kept-if-none};
-ghost use Rattle·queue·specs.Pasts.{Arose, By-worth, by-worth-chooses};
+ghost use Rattle.std.specs.Prelude.{◌≡◌, [], take};
+ghost use Rattle.model.specs.Histories.{GoesOn, by_put, by_spend, by_take};
+ghost use Rattle.model.specs.Queues.{Put, Spend, Take};
+ghost use Rattle.list.specs.Held.{held};
+ghost use Rattle.queue.specs.Arrivals.{best_rated};
+ghost use Rattle.queue.specs.Lines.{line_meaning, line_sound, KeptIfRefused, KeptIfNone};
+ghost use Rattle.queue.specs.Pasts.{Arose, ByWorthLine, by_worth_chooses};
+
 use super::ByWorth;
-use crate::lines::first_number;
-use crate::lines::own_slots;
-use crate::lines::put_in;
-use crate::lines::spend_first;
-use crate::lines::take_out;
+use crate::lines::{first_number, own_slots, put_in, spend_first, take_out};
 use crate::queues::Queue;
 use crate::slots::Slot;
-use crate::slots::SlotRanked;
 use list::OrderedList;
-use model::Errand;
-use model::Refusal;
+use model::{Errand, Refusal};
 
 impl<'a> ByWorth<'a> {
     // An empty queue over the slots, of which it uses at most the first 1,024.
     pub fn new(slots: &'a mut [Slot]) -> ByWorth<'a>
-        ensures empty { λ r. ⌜ held (r .line) ≡ [] ⌝ }
-        ensures history { λ r. ⌜ By-worth [] (r .line) ⌝ }
-        ensures slots { λ r. ⌜ now (r .line .slots) ≡ take 1024 (now (slots .entry)) ⌝ }
+        ensures empty { held result.line ≡ [] }
+        ensures history { ByWorthLine [] result.line }
+        ensures slots { result.line.slots.now ≡ take 1024 slots.old }
     {
         ByWorth {
             line: OrderedList::new(own_slots(slots)),
@@ -33,45 +26,45 @@ impl<'a> ByWorth<'a> {
     }
 }
 
-pub impl<'a> Queue for ByWorth<'a> as ByWorthQueue {
-    ghost meaning = { λ q. line-meaning (q .line) };
+impl<'a> Queue for ByWorth<'a> {
+    ghost meaning = { λ q. line_meaning q.line };
 
-    ghost sound = { λ q. line-sound (q .line) (q .once) };
+    ghost sound = { λ q. line_sound q.line q.once };
 
-    ghost arises = { λ past q. By-worth past (q .line) };
+    ghost arises = { λ past q. ByWorthLine past q.line };
 
-    ghost rule = { best-rated };
+    ghost rule = { best_rated };
 
-    ghost chooses = { λ past q arose. by-worth-chooses past (q .line) arose };
+    ghost chooses = { λ past q arose. by_worth_chooses past q.line arose };
 
     fn put(&mut self, errand: Errand) -> Result<(), Refusal>
-        ensures means { λ r. ⌜ Put (line-meaning (now (self .entry) .line)) errand r (line-meaning (now (self .exit) .line)) ⌝ }
-        ensures history { λ r. ⌜ Goes-on By-worth (now (self .entry) .line) (by-put errand r) (now (self .exit) .line) ⌝ }
-        ensures kept { λ r. ⌜ Kept-if-refused (now (self .entry) .line) r (now (self .exit) .line) ⌝ }
+        ensures means { Put (line_meaning self.old.line) errand result (line_meaning self.new.line) }
+        ensures history { GoesOn ByWorthLine self.old.line (by_put errand result) self.new.line }
+        ensures kept { KeptIfRefused self.old.line result self.new.line }
     {
         let slot = Slot::rated(errand)?;
         put_in(&mut self.line, slot)
     }
 
     fn name(&self) -> Option<u32>
-        ensures means { λ r. ⌜ r ≡ line-meaning (now (self .entry) .line) .named ⌝ }
-        ensures arose { λ _. ⌜ Arose By-worth (now (self .entry) .line) ⌝ }
+        ensures means { result ≡ (line_meaning self.now.line).named }
+        ensures arose { Arose ByWorthLine self.now.line }
     {
         first_number(&self.line)
     }
 
     fn spend(&mut self) -> Option<u32>
-        ensures means { λ r. ⌜ Spend (line-meaning (now (self .entry) .line)) r (line-meaning (now (self .exit) .line)) ⌝ }
-        ensures history { λ r. ⌜ Goes-on By-worth (now (self .entry) .line) (by-spend r) (now (self .exit) .line) ⌝ }
-        ensures kept { λ r. ⌜ Kept-if-none (now (self .entry) .line) r (now (self .exit) .line) ⌝ }
+        ensures means { Spend (line_meaning self.old.line) result (line_meaning self.new.line) }
+        ensures history { GoesOn ByWorthLine self.old.line (by_spend result) self.new.line }
+        ensures kept { KeptIfNone self.old.line result self.new.line }
     {
         spend_first(&mut self.line)
     }
 
     fn take(&mut self, number: u32) -> Result<u32, Refusal>
-        ensures means { λ r. ⌜ Take (line-meaning (now (self .entry) .line)) number r (line-meaning (now (self .exit) .line)) ⌝ }
-        ensures history { λ r. ⌜ Goes-on By-worth (now (self .entry) .line) (by-take number r) (now (self .exit) .line) ⌝ }
-        ensures kept { λ r. ⌜ Kept-if-refused (now (self .entry) .line) r (now (self .exit) .line) ⌝ }
+        ensures means { Take (line_meaning self.old.line) number result (line_meaning self.new.line) }
+        ensures history { GoesOn ByWorthLine self.old.line (by_take number result) self.new.line }
+        ensures kept { KeptIfRefused self.old.line result self.new.line }
     {
         take_out(&mut self.line, number)
     }

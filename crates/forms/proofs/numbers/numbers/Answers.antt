@@ -1,47 +1,44 @@
-use mathlib.Core.Path.{sym, ap, _∙_}
-use mathlib.Core.List.{List, _∷_}
-use Prim.Native.Nat.{ℕ}
-use native.Mathlib.Omega.{arith}
-use lib.ListN.{replicate, length-replicate}
-use Rattle·std.proofs.shelf.Lists.{length-set}
-use Rattle·forms·specs.Numbers.{numbers}
-use Rattle·text.specs.Items.{items-left}
-use Rattle·forms·proofs.Numbered.{all-read, no-item, no-number, none-read, number-read, too-many}
-use Rattle·forms·proofs.numbers.numbers.Needs as need
+use Rattle.std.proofs.Common.{ℕ, List, ◌∷◌, replicate, sym, ap, ◌∙◌, arith}
+use lib.ListN.{length-replicate}
+use Rattle.std.proofs.lemmas.List.{length-set}
+use Rattle.forms.specs.Numbers.{numbers}
+use Rattle.text.specs.Items.{items_left}
+use Rattle.forms.proofs.Numbered.{all_read, no_item, no_number, none_read, number_read, too_many}
+use Rattle.forms.proofs.numbers.numbers.Goals as goal
 
-pub loop-k-holds : need.loop-k-holds
-loop-k-holds g c = (length-replicate (g .N) 0, none-read (g .N) (replicate (g .N) 0) (items-left (c .args .items)))
+pub loop-k-init : goal.loop-k-init
+loop-k-init g c = (length-replicate g.row.N 0, none_read g.row.N (replicate g.row.N 0) (items_left c.args.items))
 
-pub returns-in-Break-next : need.returns-in-Break-next
-returns-in-Break-next g c =
-    c .from-residual .ensures
-    ∙ no-item (g .N) (c .loop-k .k) (c .loop-k .values) (items-left (c .loop-k .items)) _ (omega arith) (c .in-Break-next .ensures tt .hands .0) (c .loop-k .inv .1)
+pub returns-in_err-next : goal.returns-in_err-next
+returns-in_err-next g c =
+    c.from_residual.ensures
+    ∙ no_item g.row.N c.loop-k.k c.loop-k.values (items_left c.loop-k.items) _ (omega arith) c.in_err-next.ensures.hands.0 c.loop-k.invariant.1
 
-pub returns-then-not-is-number : need.returns-then-not-is-number
-returns-then-not-is-number g c =
-    let later = items-left (c .next .last .self) in
-    let first = c .in-Continue-next .ensures tt .hands ∙ ap (λ (i : List ℕ). i ∷ later) (sym (c .bytes-item .ensures)) in
-    no-number (g .N) (c .loop-k .k) (c .loop-k .values) (items-left (c .loop-k .items)) _ (c .bytes-item .result .now) later (omega arith) first
-    (sym (c .if-not-is-number .ensures tt)) (c .loop-k .inv .1)
+pub returns-then-not-is_number : goal.returns-then-not-is_number
+returns-then-not-is_number g c =
+    let later = items_left c.next.new.self in
+    let first = c.in_ok-next.ensures.hands ∙ ap (λ (i : List ℕ). i ∷ later) (sym c.bytes-item.ensures) in
+    no_number g.row.N c.loop-k.k c.loop-k.values (items_left c.loop-k.items) _ c.bytes-item.result.now later (omega arith) first
+    (sym c.if-not-is_number.ensures) c.loop-k.invariant.1
 
-pub loop-k-again : need.loop-k-again
-loop-k-again g c =
-    let values = c .loop-k .values in
-    let k = c .loop-k .k in
-    let item = c .bytes-item .result .now in
-    let later = items-left (c .next .last .self) in
-    let first = c .in-Continue-next .ensures tt .hands ∙ ap (λ (i : List ℕ). i ∷ later) (sym (c .bytes-item .ensures)) in (
-      length-set values k (c .value .result) ∙ c .loop-k .inv .0,
-      rw (c .value .ensures)
-          (number-read (g .N) k values (items-left (c .loop-k .items)) (numbers (g .N) (items-left (c .args .items))) item later (omega arith) (omega (arith, c .loop-k .inv .0))
-          first (sym (c .if-not-is-number .ensures tt)) (c .loop-k .inv .1)),
+pub loop-k-preserved : goal.loop-k-preserved
+loop-k-preserved g c =
+    let values = c.loop-k.values in
+    let k = c.loop-k.k in
+    let item = c.bytes-item.result.now in
+    let later = items_left c.next.new.self in
+    let first = c.in_ok-next.ensures.hands ∙ ap (λ (i : List ℕ). i ∷ later) (sym c.bytes-item.ensures) in (
+      length-set values k c.value.result ∙ c.loop-k.invariant.0,
+      rw c.value.ensures
+          (number_read g.row.N k values (items_left c.loop-k.items) (numbers g.row.N (items_left c.args.items)) item later (omega arith) (omega (arith, c.loop-k.invariant.0))
+          first (sym c.if-not-is_number.ensures) c.loop-k.invariant.1),
     )
 
-pub returns-in-None : need.returns-in-None
+pub returns-in-None : goal.returns-in-None
 returns-in-None g c =
-    all-read (g .N) (c .loop-k .k) (c .loop-k .values) (items-left (c .loop-k .items)) _ (omega arith) (omega (arith, c .loop-k .inv .0))
-    (c .in-None .ensures tt .hands .0) (c .loop-k .inv .1)
+    all_read g.row.N c.loop-k.k c.loop-k.values (items_left c.loop-k.items) _ (omega arith) (omega (arith, c.loop-k.invariant.0))
+    c.in-None.ensures.hands.0 c.loop-k.invariant.1
 
-pub returns-in-Some : need.returns-in-Some
+pub returns-in-Some : goal.returns-in-Some
 returns-in-Some g c =
-    too-many (g .N) (c .loop-k .k) (c .loop-k .values) (items-left (c .loop-k .items)) _ _ _ (omega arith) (c .in-Some .ensures tt .hands) (c .loop-k .inv .1)
+    too_many g.row.N c.loop-k.k c.loop-k.values (items_left c.loop-k.items) _ _ _ (omega arith) c.in-Some.ensures.hands c.loop-k.invariant.1

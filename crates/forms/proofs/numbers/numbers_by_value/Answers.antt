@@ -1,5 +1,5 @@
-use Rattle·forms·proofs.Valued.{numbers-by-value}
-use Rattle·forms·proofs.numbers.numbers_by_value.Needs as need
+use Rattle.forms.proofs.Valued.{numbers_by_value}
+use Rattle.forms.proofs.numbers.numbers_by_value.Goals as goal
 
-pub returns : need.returns
-returns c = numbers-by-value
+pub returns : goal.returns
+returns c = numbers_by_value

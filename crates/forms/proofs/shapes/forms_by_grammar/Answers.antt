@@ -1,5 +1,5 @@
-use Rattle·forms·proofs.Grammatical.{forms-by-grammar}
-use Rattle·forms·proofs.shapes.forms_by_grammar.Needs as need
+use Rattle.forms.proofs.Grammatical.{forms_by_grammar}
+use Rattle.forms.proofs.shapes.forms_by_grammar.Goals as goal
 
-pub returns : need.returns
-returns c = forms-by-grammar
+pub returns : goal.returns
+returns c = forms_by_grammar

@@ -1,6 +1,6 @@
 -- Deadlines, spare ticks and accounts of every run, put together in proofs/Promise.antt.
-use Rattle·model·proofs.Promise.{every-run-keeps-the-promise}
-use Rattle·model·proofs.laws.every_run_keeps_the_promise.Needs as need
+use Rattle.model.proofs.Promise.{every_run_keeps_the_promise}
+use Rattle.model.proofs.laws.every_run_keeps_the_promise.Goals as goal
 
-pub returns : need.returns
-returns c = every-run-keeps-the-promise
+pub returns : goal.returns
+returns c = every_run_keeps_the_promise

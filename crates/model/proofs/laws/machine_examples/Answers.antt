@@ -1,6 +1,6 @@
 -- The run, step by step, and the future are worked out in proofs/MachineExamples.antt.
-use Rattle·model·proofs.MachineExamples.{machine-examples}
-use Rattle·model·proofs.laws.machine_examples.Needs as need
+use Rattle.model.proofs.MachineExamples.{machine_examples}
+use Rattle.model.proofs.laws.machine_examples.Goals as goal
 
-pub returns : need.returns
-returns c = machine-examples
+pub returns : goal.returns
+returns c = machine_examples

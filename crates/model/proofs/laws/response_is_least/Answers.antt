@@ -1,5 +1,5 @@
-use Rattle·model·proofs.Responses.{response-is-least}
-use Rattle·model·proofs.laws.response_is_least.Needs as need
+use Rattle.model.proofs.Responses.{response_is_least}
+use Rattle.model.proofs.laws.response_is_least.Goals as goal
 
-pub returns : need.returns
-returns c = response-is-least
+pub returns : goal.returns
+returns c = response_is_least

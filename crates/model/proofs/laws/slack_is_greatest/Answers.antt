@@ -1,5 +1,5 @@
-use Rattle·model·proofs.Slack.{slack-is-greatest}
-use Rattle·model·proofs.laws.slack_is_greatest.Needs as need
+use Rattle.model.proofs.Slack.{slack_is_greatest}
+use Rattle.model.proofs.laws.slack_is_greatest.Goals as goal
 
-pub returns : need.returns
-returns c = slack-is-greatest
+pub returns : goal.returns
+returns c = slack_is_greatest

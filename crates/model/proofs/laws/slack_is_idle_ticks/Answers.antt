@@ -1,5 +1,5 @@
-use Rattle·model·proofs.Slack.{slack-is-idle-ticks}
-use Rattle·model·proofs.laws.slack_is_idle_ticks.Needs as need
+use Rattle.model.proofs.Slack.{slack_is_idle_ticks}
+use Rattle.model.proofs.laws.slack_is_idle_ticks.Goals as goal
 
-pub returns : need.returns
-returns c = slack-is-idle-ticks
+pub returns : goal.returns
+returns c = slack_is_idle_ticks

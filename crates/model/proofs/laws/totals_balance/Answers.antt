@@ -1,6 +1,6 @@
 -- The accounts of each errand number, summed over the numbers in proofs/Totals.antt.
-use Rattle·model·proofs.Totals.{totals-balance}
-use Rattle·model·proofs.laws.totals_balance.Needs as need
+use Rattle.model.proofs.Totals.{totals_balance}
+use Rattle.model.proofs.laws.totals_balance.Goals as goal
 
-pub returns : need.returns
-returns c = totals-balance
+pub returns : goal.returns
+returns c = totals_balance

@@ -1,18 +1,18 @@
-use mathlib.Core.Path.{refl}
-use Rattle·model·specs.Table.{ceil}
-use Rattle·model·proofs.laws.worked_examples.Needs as need
+use Rattle.std.proofs.Common.{refl}
+use Rattle.model.specs.Table.{ceil}
+use Rattle.model.proofs.laws.worked_examples.Goals as goal
 
-pub returns : need.returns
+pub returns : goal.returns
 unfolding ceil
 returns c =
     record {
       responses = (refl, refl, refl);
       taken = refl;
-      too-tight = refl;
-      pushed-late = refl;
-      slack-released = (refl, refl, refl, refl);
-      slack-idle = (refl, refl, refl, refl);
-      slack-whole = (refl, refl);
-      slack-figure = refl;
-      slack-no-rows = refl;
+      too_tight = refl;
+      pushed_late = refl;
+      slack_released = (refl, refl, refl, refl);
+      slack_idle = (refl, refl, refl, refl);
+      slack_whole = (refl, refl);
+      slack_figure = refl;
+      slack_no_rows = refl;
     }

@@ -1,5 +1,5 @@
-use Rattle·queue·proofs.Rating.{best-rated-is-best}
-use Rattle·queue·proofs.laws.best_rated_is_best.Needs as need
+use Rattle.queue.proofs.Rating.{best_rated_is_best}
+use Rattle.queue.proofs.laws.best_rated_is_best.Goals as goal
 
-pub returns : need.returns
-returns c = best-rated-is-best
+pub returns : goal.returns
+returns c = best_rated_is_best

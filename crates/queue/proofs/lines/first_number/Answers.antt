@@ -1,16 +1,15 @@
-use mathlib.Core.Path.{sym, ap, _∙_}
-use Rattle·std.specs.declared.option.Option.the-variants.{Some}
-use Rattle·list.specs.Held.{held}
-use Rattle·queue·specs.Lines.{errands, first-number}
-use Rattle·queue·proofs.Calling.{first-none, first-some}
-use Rattle·queue·proofs.lines.first_number.Needs as need
+use Rattle.std.proofs.Common.{Some, sym, ap, ◌∙◌}
+use Rattle.list.specs.Held.{held}
+use Rattle.queue.specs.Lines.{errands, first_number}
+use Rattle.queue.proofs.Calling.{first_none, first_some}
+use Rattle.queue.proofs.lines.first_number.Goals as goal
 
-pub returns-in-Break-slot : need.returns-in-Break-slot
-returns-in-Break-slot c =
-    c .from-residual .ensures
-    ∙ sym (ap (λ ss. first-number (errands ss)) (first-none (held (c .args .line .now)) (c .in-Break-slot .ensures tt)))
+pub returns-in_err-slot : goal.returns-in_err-slot
+returns-in_err-slot c =
+    c.from_residual.ensures
+    ∙ sym (ap (λ ss. first_number (errands ss)) (first_none (held c.args.line.now) c.in_err-slot.ensures))
 
-pub returns : need.returns
+pub returns : goal.returns
 returns c =
-    ap (λ e. Some (e .number)) (c .errand .ensures)
-    ∙ sym (ap (λ ss. first-number (errands ss)) (first-some (held (c .args .line .now)) (c .in-Continue-slot .slot) (c .in-Continue-slot .ensures tt)))
+    ap (λ e. Some e.number) c.errand.ensures
+    ∙ sym (ap (λ ss. first_number (errands ss)) (first_some (held c.args.line.now) c.in_ok-slot.slot c.in_ok-slot.ensures))

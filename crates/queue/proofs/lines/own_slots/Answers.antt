@@ -1,7 +1,6 @@
-use native.Mathlib.Omega.{arith}
-use Prim.Native.Nat.{_-_}
-use Rattle·queue·proofs.Lookups.{take-most}
-use Rattle·queue·proofs.lines.own_slots.Needs as need
+use Rattle.std.proofs.Common.{◌-◌, arith}
+use Rattle.queue.proofs.Lookups.{take_most}
+use Rattle.queue.proofs.lines.own_slots.Goals as goal
 
-pub returns : need.returns
-returns c = take-most (c .args .slots .now) (c .min-most .result - 0) 1024 (omega arith)
+pub returns : goal.returns
+returns c = take_most c.args.slots.now (c.min-most.result - 0) 1024 (omega arith)

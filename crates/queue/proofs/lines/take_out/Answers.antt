@@ -1,40 +1,38 @@
-use mathlib.Core.Path.{_≡_, refl, sym, ap, subst, _∙_}
-use Rattle·std.specs.Finite.{nth}
-use Rattle·std.specs.Holes.{removed}
-use Rattle·std.specs.declared.result.Result.the-variants.{Ok}
-use Rattle·model.specs.Queues.{Take}
-use Rattle·model.specs.declared.refusals.Refusal.the-variants.{NotWaiting}
-use Rattle·list.specs.Held.{held, Becomes}
-use Rattle·queue·specs.Lines.{errands, line-meaning, place-of}
-use Rattle·queue·proofs.Calling.{take-found, take-missing, without-is}
-use Rattle·queue·proofs.lines.take_out.Needs as need
+use Rattle.std.proofs.Common.{◌≡◌, Ok, sym, refl, ap, ◌∙◌, subst}
+use Rattle.std.specs.List.{slice_get, remove}
+use Rattle.model.specs.Queues.{Take}
+use Rattle.model.specs.declared.refusals.Refusal.TheVariants.{NotWaiting}
+use Rattle.list.specs.Held.{held, Becomes}
+use Rattle.queue.specs.Lines.{errands, line_meaning, place_of}
+use Rattle.queue.proofs.Calling.{take_found, take_missing, without_is}
+use Rattle.queue.proofs.lines.take_out.Goals as goal
 
-pub returns-in-Some : need.returns-in-Some
+pub returns-in-Some : goal.returns-in-Some
 returns-in-Some c =
-    let l = c .args .line .now in
-    let n = c .args .number in
-    let m = c .remove .last .self in
-    let at : c .place-of-place .result ≡ place-of n (errands (held l)) =
-    c .place-of-place .ensures ∙ ap (λ ss. place-of n (errands ss)) (c .entries .ensures) in
-    let done = subst (λ i. Becomes l (removed (held l) i) m) at (c .remove .ensures .becomes) in
+    let l = c.args.line.now in
+    let n = c.args.number in
+    let m = c.remove.new.self in
+    let at : c.place_of-place.result ≡ place_of n (errands (held l)) =
+    c.place_of-place.ensures ∙ ap (λ ss. place_of n (errands ss)) c.entries.ensures in
+    let done = subst (λ i. Becomes l (remove (held l) i) m) at c.remove.ensures.becomes in
     record {
       takes = λ once.
-          subst (λ e. Take (line-meaning l) n (Ok (e .units)) (line-meaning m)) (sym (c .errand .ensures))
-          (take-found l m n (c .in-Some .slot) (sym (c .in-Some .is) ∙ c .remove .ensures .value ∙ ap (nth (held l)) at) done once);
-      lines = done .holds ∙ without-is n (held l);
-      order = c .remove .ensures .order;
+          subst (λ e. Take (line_meaning l) n (Ok e.units) (line_meaning m)) (sym c.errand.ensures)
+          (take_found l m n c.in-Some.slot (sym c.in-Some.is ∙ c.remove.ensures.value ∙ ap (slice_get (held l)) at) done once);
+      lines = done.holds ∙ without_is n (held l);
+      order = c.remove.ensures.order;
     }
 
-pub returns-in-None : need.returns-in-None
+pub returns-in-None : goal.returns-in-None
 returns-in-None c =
-    let l = c .args .line .now in
-    let n = c .args .number in
-    let at : c .place-of-place .result ≡ place-of n (errands (held l)) =
-    c .place-of-place .ensures ∙ ap (λ ss. place-of n (errands ss)) (c .entries .ensures) in
-    let same = c .remove .ensures .missing (c .in-None .is) in
+    let l = c.args.line.now in
+    let n = c.args.number in
+    let at : c.place_of-place.result ≡ place_of n (errands (held l)) =
+    c.place_of-place.ensures ∙ ap (λ ss. place_of n (errands ss)) c.entries.ensures in
+    let same = c.remove.ensures.missing c.in-None.is in
     record {
       takes = λ once.
-          take-missing l (c .remove .last .self) n NotWaiting (sym (c .in-None .is) ∙ c .remove .ensures .value ∙ ap (nth (held l)) at) refl same;
+          take_missing l c.remove.new.self n NotWaiting (sym c.in-None.is ∙ c.remove.ensures.value ∙ ap (slice_get (held l)) at) refl same;
       lines = same;
-      order = c .remove .ensures .order;
+      order = c.remove.ensures.order;
     }

@@ -1,37 +1,32 @@
-use Prim.Native.Nat.{ℕ, _+_, _<_}
-use mathlib.Core.Path.{sym, ap, _∙_}
-use mathlib.Core.List.{List, _++_}
-use native.Mathlib.Omega.{arith}
-use lib.ListN.{length, getD, drop}
-use Rattle·std.proofs.shelf.Lists.{append-assoc}
-use Rattle·dispatcher.specs.Scripts.{trace-of}
-use Rattle·std.specs.Of.Vec.{vec-items}
-use Rattle·rendering·specs.Lines.{event-line}
-use Rattle·rendering·specs.Renderings.{event-lines}
-use Rattle·rendering·proofs.Rendered.{at-most-one, events-all, events-more, no-entry}
-use Rattle·rendering·proofs.events.write_events.Needs as need
+use Rattle.std.proofs.Common.{ℕ, ◌+◌, ◌<◌, List, ◌++◌, length, get_or, drop, vec_items, sym, ap, ◌∙◌, arith}
+use Rattle.std.proofs.lemmas.List.{append_assoc}
+use Rattle.dispatcher.specs.Scripts.{trace_of}
+use Rattle.rendering.specs.Lines.{event_line}
+use Rattle.rendering.specs.Renderings.{event_lines}
+use Rattle.rendering.proofs.Rendered.{at_most_one, events_all, events_more, no_entry}
+use Rattle.rendering.proofs.events.write_events.Goals as goal
 
-pub loop-entry-again : need.loop-entry-again
-loop-entry-again c =
-    let script = c .args .script .now in
-    let i = c .loop-entry .entry-index in
-    let clock = c .loop-entry .clock in
-    let e = getD script i no-entry in
-    let line = event-line clock (e .call) (e .answer) in
-    let written = vec-items (c .loop-entry .out) in
+pub loop-entry-preserved : goal.loop-entry-preserved
+loop-entry-preserved c =
+    let script = c.args.script.now in
+    let i = c.loop-entry.entry-index in
+    let clock = c.loop-entry.clock in
+    let e = get_or script i no_entry in
+    let line = event_line clock e.call e.answer in
+    let written = vec_items c.loop-entry.out in
     let short : i < length script = omega arith in
-    let moved = c .ticks-of-clock .ensures in
-    let (all, behind) = c .loop-entry .inv in
-    let rest = event-lines (clock + c .ticks-of-clock .result) (trace-of (drop (i + 1) script)) in
+    let moved = c.ticks_of-clock.ensures in
+    let (all, behind) = c.loop-entry.invariant in
+    let rest = event_lines (clock + c.ticks_of-clock.result) (trace_of (drop (i + 1) script)) in
     let more =
-    events-more script i clock short
-    ∙ ap (λ (k : ℕ). line ++ event-lines (clock + k) (trace-of (drop (i + 1) script))) (sym moved) in (
-      ap (λ (bs : List ℕ). bs ++ rest) (c .in-Continue-write-event .ensures tt)
-          ∙ append-assoc written line rest
+    events_more script i clock short
+    ∙ ap (λ (k : ℕ). line ++ event_lines (clock + k) (trace_of (drop (i + 1) script))) (sym moved) in (
+      ap (λ (bs : List ℕ). bs ++ rest) c.in_ok-write_event.ensures
+          ∙ append_assoc written line rest
           ∙ ap (λ (bs : List ℕ). written ++ bs) (sym more)
           ∙ all,
-      omega (arith, at-most-one (e .answer), moved),
+      omega (arith, at_most_one e.answer, moved),
     )
 
-pub returns : need.returns
-returns c = events-all (c .args .script .now) (c .loop-entry .entry-index) (c .loop-entry .clock) _ _ (omega arith) (c .loop-entry .inv .0)
+pub returns : goal.returns
+returns c = events_all c.args.script.now c.loop-entry.entry-index c.loop-entry.clock _ _ (omega arith) c.loop-entry.invariant.0

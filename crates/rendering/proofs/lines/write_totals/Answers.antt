@@ -1,6 +1,7 @@
-use borrow.Author.Needs.{needs}
-use Rattle·std.proofs.shelf.Lists.{append-assoc}
-use Rattle·rendering·proofs.lines.write_totals.Needs as need
+use Rattle.std.proofs.lemmas.List.{append_assoc}
+use Rattle.rendering.proofs.lines.write_totals.Goals as goal
 
-pub returns : need.returns
-returns c = search (needs, append-assoc)
+pub returns : goal.returns
+returns c =
+    simp (c.in_ok-write_number-4.ensures, c.in_ok-write_word-4.ensures, c.in_ok-write_number-3.ensures, c.in_ok-write_word-3.ensures, c.in_ok-write_number-2.ensures, c.in_ok-write_word-2.ensures, c.in_ok-write_number.ensures, c.in_ok-write_word.ensures, append_assoc)
+    at c.write_word-5.ensures

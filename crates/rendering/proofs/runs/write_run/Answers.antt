@@ -1,22 +1,20 @@
-use mathlib.Core.Path.{_≡_}
-use mathlib.Core.List.{_++_}
-use Rattle·std.proofs.shelf.Results.{made-weaker}
-use Rattle·std.specs.Of.Vec.{vec-items}
-use Rattle·dispatcher.specs.Scripts.{trace-of}
-use Rattle·rendering·proofs.Rendered.{totals-behind}
-use Rattle·rendering·specs.Lines.{totals-line}
-use Rattle·rendering·specs.Renderings.{left-over, run-lines}
-use Rattle·rendering·proofs.runs.write_run.Needs as need
+use Rattle.std.proofs.Common.{◌≡◌, ◌++◌, vec_items}
+use Rattle.std.proofs.lemmas.Result.{IfOk-weaker}
+use Rattle.dispatcher.specs.Scripts.{trace_of}
+use Rattle.rendering.proofs.Rendered.{totals_behind}
+use Rattle.rendering.specs.Lines.{totals_line}
+use Rattle.rendering.specs.Renderings.{left_over, run_lines}
+use Rattle.rendering.proofs.runs.write_run.Goals as goal
 
-pub returns : need.returns
+pub returns : goal.returns
 returns c =
-    let trace = trace-of (c .args .script .now) in
-    let totals = c .of-totals .result in
-    let start = vec-items (c .args .out .now) in
-    let middle = vec-items (c .write-events .last .out) in
-    let end = vec-items (c .write-totals .last .out) in
-    made-weaker (c .write-totals .result) (λ _. end ≡ middle ++ totals-line (totals .accepted) (totals .served) (totals .withdrawn) (c .waiting .result))
-    (λ _. end ≡ start ++ run-lines trace (left-over trace))
-    (λ _ wrote. totals-behind trace (totals .accepted) (totals .served) (totals .withdrawn) (c .waiting .result) start middle end (c .of-totals .ensures .accepted)
-    (c .of-totals .ensures .served) (c .of-totals .ensures .withdrawn) (c .waiting .ensures) (c .in-Continue-write-events .ensures tt) wrote)
-    (c .write-totals .ensures)
+    let trace = trace_of c.args.script.now in
+    let totals = c.of-totals.result in
+    let start = vec_items c.args.out.now in
+    let middle = vec_items c.write_events.new.out in
+    let end = vec_items c.write_totals.new.out in
+    IfOk-weaker c.write_totals.result (λ _. end ≡ middle ++ totals_line totals.accepted totals.served totals.withdrawn c.waiting.result)
+    (λ _. end ≡ start ++ run_lines trace (left_over trace))
+    (λ _ wrote. totals_behind trace totals.accepted totals.served totals.withdrawn c.waiting.result start middle end c.of-totals.ensures.accepted
+    c.of-totals.ensures.served c.of-totals.ensures.withdrawn c.waiting.ensures c.in_ok-write_events.ensures wrote)
+    c.write_totals.ensures

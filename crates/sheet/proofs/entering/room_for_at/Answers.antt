@@ -1,7 +1,6 @@
-use native.Mathlib.Omega.{arith}
-use lib.ListN.{length-take}
-use Rattle·std.proofs.shelf.Ways.{tells}
-use Rattle·sheet·proofs.entering.room_for_at.Needs as need
+use Rattle.std.proofs.Common.{arith, length-take}
+use Rattle.std.proofs.lemmas.Bool.Decides.{nat_tests}
+use Rattle.sheet.proofs.entering.room_for_at.Goals as goal
 
-pub returns : need.returns
-returns c = simp length-take (grind (arith, tells))
+pub returns : goal.returns
+returns c = simp length-take (grind (arith, nat_tests))

@@ -1,6 +1,6 @@
-use native.Mathlib.Omega.{arith}
-use Rattle·text.proofs.Cuts.{take-front}
-use Rattle·sheet·proofs.reading.held.Needs as need
+use Rattle.std.proofs.Common.{arith}
+use Rattle.text.proofs.Cuts.{take_front}
+use Rattle.sheet.proofs.reading.held.Goals as goal
 
-pub returns : need.returns
-returns c = take-front (c .args .ats .now) (c .args .count) (c .min .result) (omega (arith, c .min .ensures))
+pub returns : goal.returns
+returns c = take_front c.args.ats.now c.args.count c.min.result (omega (arith, c.min.ensures))

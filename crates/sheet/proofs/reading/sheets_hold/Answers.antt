@@ -1,5 +1,5 @@
-use Rattle·sheet·proofs.Called.{sheets-hold}
-use Rattle·sheet·proofs.reading.sheets_hold.Needs as need
+use Rattle.sheet.proofs.Called.{sheets_hold}
+use Rattle.sheet.proofs.reading.sheets_hold.Goals as goal
 
-pub returns : need.returns
-returns c = sheets-hold
+pub returns : goal.returns
+returns c = sheets_hold

@@ -1,15 +1,11 @@
-use mathlib.Core.Path.{ap, _∙_}
-use mathlib.Core.List.{List}
-use Prim.Native.Nat.{_+_}
-use native.Mathlib.Omega.{arith}
-use lib.ListN.{set, take}
-use Rattle·model.proofs.Slots.{inserted-part, opened}
-use Rattle·model.specs.declared.duties.Duty.{Duty}
-use Rattle·table·proofs.adding.with_duty.Needs as need
+use Rattle.std.proofs.Common.{◌+◌, List, take, set, ap, ◌∙◌, arith}
+use Rattle.model.proofs.Slots.{inserted_part, opened}
+use Rattle.model.specs.declared.duties.Duty.{Duty}
+use Rattle.table.proofs.adding.with_duty.Goals as goal
 
-pub returns : need.returns
+pub returns : goal.returns
 returns c =
-    let duties = c .args .duties .now in
-    ap (λ (slots : List Duty). take (c .args .len + 1) (set slots (c .args .place) (c .args .duty))) (c .copy-within .ensures .after)
-    ∙ ap (take (c .args .len + 1)) (opened duties (c .args .len) (c .args .place) (c .args .duty) (omega arith) (omega arith))
-    ∙ inserted-part duties (c .args .len) (c .args .place) (c .args .duty) (omega arith) (omega arith)
+    let duties = c.args.duties.now in
+    ap (λ (slots : List Duty). take (c.args.len + 1) (set slots c.args.place c.args.duty)) c.copy_within.ensures.after
+    ∙ ap (take (c.args.len + 1)) (opened duties c.args.len c.args.place c.args.duty (omega arith) (omega arith))
+    ∙ inserted_part duties c.args.len c.args.place c.args.duty (omega arith) (omega arith)

@@ -1,7 +1,7 @@
-use borrow.Author.Needs.{needs}
-use Rattle·model.specs.Table.{ceil}
-use Rattle·table·proofs.analysis.ceil.Needs as need
+use Rattle.std.proofs.Common.{rules}
+use Rattle.model.specs.Table.{ceil}
+use Rattle.table.proofs.analysis.ceil.Goals as goal
 
-pub returns : need.returns
+pub returns : goal.returns
 unfolding ceil
-returns c = search needs
+returns c = search rules

@@ -1,42 +1,38 @@
-use mathlib.Core.Path.{_≡_, sym, _∙_}
-use mathlib.Core.Bool.{false}
-use Prim.Native.Nat.{_≤_}
-use native.Mathlib.Omega.{arith}
-use borrow.Author.Count.{below-more}
-use Rattle·model.proofs.Searches.{least-is, least-none}
-use Rattle·model.specs.Table.{suffices}
-use Rattle·model.proofs.Admitted.{limits-at}
-use Rattle·table·proofs.analysis.response_time.Needs as need
+use Rattle.std.proofs.Common.{◌≡◌, ◌≤◌, false, sym, ◌∙◌, arith, below_more}
+use Rattle.model.proofs.Searches.{least_is, least_none}
+use Rattle.model.specs.Table.{suffices}
+use Rattle.model.proofs.Admitted.{limits_at}
+use Rattle.table.proofs.analysis.response_time.Goals as goal
 
-pub suffices-requires : need.suffices-requires
-suffices-requires c κs =
-    let l = limits-at (c .args .table .now) (c .pre .0) (c .args .row) (c .pre .1 .1) in
-    (c .pre .0, (c .pre .1 .0, (c .pre .1 .1, omega arith)))
+pub suffices-requires : goal.suffices-requires
+suffices-requires c =
+    let l = limits_at c.args.table.now c.requires.0 c.args.row c.requires.1.1 in
+    (c.requires.0, (c.requires.1.0, (c.requires.1.1, omega arith)))
 
-pub returns-then-suffices : need.returns-then-suffices
+pub returns-then-suffices : goal.returns-then-suffices
 returns-then-suffices c =
-    sym (least-is (suffices (c .args .table .now) (c .args .row)) 1 _ (c .loop-ticks .ticks)
+    sym (least_is (suffices c.args.table.now c.args.row) 1 _ c.loop-ticks.ticks
     (record {
-      passed = sym (c .suffices .ensures) ∙ c .if-suffices .taken;
+      passed = sym c.suffices.ensures ∙ c.if-suffices.true;
       above = omega arith;
       below = omega arith;
-      first = c .loop-ticks .inv;
+      first = c.loop-ticks.invariant;
     }))
 
-pub returns : need.returns
+pub returns : goal.returns
 returns c =
-    sym (least-none (suffices (c .args .table .now) (c .args .row)) 1 _ (λ v some v-below. c .loop-ticks .inv v some (omega arith)))
+    sym (least_none (suffices c.args.table.now c.args.row) 1 _ (λ v some v_below. c.loop-ticks.invariant v some (omega arith)))
 
-pub add·ticks : need.add·ticks
-add·ticks c =
-    let l = limits-at (c .args .table .now) (c .pre .0) (c .args .row) (c .pre .1 .1) in
+pub overflow_step-ticks : goal.overflow_step-ticks
+overflow_step-ticks c =
+    let l = limits_at c.args.table.now c.requires.0 c.args.row c.requires.1.1 in
     omega arith
 
-pub returns-else-suffices : need.returns-else-suffices
+pub returns-else-suffices : goal.returns-else-suffices
 returns-else-suffices c =
-    sym (least-none (suffices (c .args .table .now) (c .args .row)) 1 _
-    (λ v some v-below.
-    below-more (λ k. 1 ≤ k → suffices (c .args .table .now) (c .args .row) k ≡ false) (c .loop-ticks .ticks)
-    (λ k h some. c .loop-ticks .inv k some h)
-    (λ some. sym (c .if-suffices .ensures tt))
+    sym (least_none (suffices c.args.table.now c.args.row) 1 _
+    (λ v some v_below.
+    below_more (λ k. 1 ≤ k → suffices c.args.table.now c.args.row k ≡ false) c.loop-ticks.ticks
+    (λ k h some. c.loop-ticks.invariant k some h)
+    (λ some. sym c.if-suffices.ensures)
     v (omega arith) some))

@@ -1,5 +1,5 @@
-use Rattle·text·proofs.Apart.{taken-apart}
-use Rattle·text·proofs.itemizing.taken_apart.Needs as need
+use Rattle.text.proofs.Apart.{taken_apart}
+use Rattle.text.proofs.itemizing.taken_apart.Goals as goal
 
-pub returns : need.returns
-returns c = taken-apart
+pub returns : goal.returns
+returns c = taken_apart

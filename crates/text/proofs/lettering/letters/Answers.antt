@@ -1,28 +1,27 @@
-use mathlib.Core.Path.{sym, _∙_}
-use native.Mathlib.Omega.{arith}
-use Rattle·std.proofs.shelf.Tests.{cond-false, cond-true}
-use Rattle·text·specs.Lines.{bad-letter}
-use Rattle·text·proofs.Walks.{in-text, no-byte-left, one-byte-on}
-use Rattle·text·proofs.lettering.letters.Needs as need
+use Rattle.std.proofs.Common.{sym, ◌∙◌, arith}
+use Rattle.std.proofs.lemmas.Bool.{cond-false, cond-true}
+use Rattle.text.specs.Lines.{bad_letter}
+use Rattle.text.proofs.Walks.{in_text, no_byte_left, one_byte_on}
+use Rattle.text.proofs.lettering.letters.Goals as goal
 
-pub index-part-byte : need.index-part-byte
-index-part-byte c = in-text (c .args .part) (c .loop-byte .byte) (c .loop-byte .kept .byte) (omega arith)
+pub bounds-part-byte : goal.bounds-part-byte
+bounds-part-byte c = in_text c.args.part c.loop-byte.byte c.loop-byte.auto.byte (omega arith)
 
-pub returns-then-not-allowed : need.returns-then-not-allowed
+pub returns-then-not-allowed : goal.returns-then-not-allowed
 returns-then-not-allowed c =
     let step =
-    one-byte-on (c .args .part) (c .loop-byte .byte) (bad-letter (record { line = c .args .part .line; byte = c .loop-byte .byte }))
-    (c .loop-byte .kept .byte) (omega arith) in
-    sym (step ∙ cond-false _ _ _ (sym (c .if-not-allowed .ensures tt))) ∙ c .loop-byte .inv
+    one_byte_on c.args.part c.loop-byte.byte (bad_letter (record { line = c.args.part.line; byte = c.loop-byte.byte }))
+    c.loop-byte.auto.byte (omega arith) in
+    sym (step ∙ cond-false _ _ _ (sym c.if-not-allowed.ensures)) ∙ c.loop-byte.invariant
 
-pub loop-byte-again : need.loop-byte-again
-loop-byte-again c =
+pub loop-byte-preserved : goal.loop-byte-preserved
+loop-byte-preserved c =
     let step =
-    one-byte-on (c .args .part) (c .loop-byte .byte) (bad-letter (record { line = c .args .part .line; byte = c .loop-byte .byte }))
-    (c .loop-byte .kept .byte) (omega arith) in
-    sym (step ∙ cond-true _ _ _ (sym (c .if-not-allowed .ensures tt))) ∙ c .loop-byte .inv
+    one_byte_on c.args.part c.loop-byte.byte (bad_letter (record { line = c.args.part.line; byte = c.loop-byte.byte }))
+    c.loop-byte.auto.byte (omega arith) in
+    sym (step ∙ cond-true _ _ _ (sym c.if-not-allowed.ensures)) ∙ c.loop-byte.invariant
 
-pub returns : need.returns
+pub returns : goal.returns
 returns c =
-    sym (no-byte-left (c .args .part) (c .loop-byte .byte) (bad-letter (record { line = c .args .part .line; byte = c .loop-byte .byte })) (omega arith))
-    ∙ c .loop-byte .inv
+    sym (no_byte_left c.args.part c.loop-byte.byte (bad_letter (record { line = c.args.part.line; byte = c.loop-byte.byte })) (omega arith))
+    ∙ c.loop-byte.invariant

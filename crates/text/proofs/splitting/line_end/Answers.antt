@@ -1,23 +1,23 @@
-use native.Mathlib.Omega.{arith}
-use Rattle·std.proofs.shelf.Lists.{at-drop-all}
-use Rattle·std.proofs.shelf.Ways.{tells}
-use Rattle·text·specs.Lines.{line-length}
-use Rattle·text·proofs.Ends.{line-length-step}
-use Rattle·text·proofs.splitting.line_end.Needs as need
+use Rattle.std.proofs.Common.{arith}
+use Rattle.std.proofs.lemmas.List.{at_drop_all}
+use Rattle.std.proofs.lemmas.Bool.Decides.{nat_tests}
+use Rattle.text.specs.Lines.{line_length}
+use Rattle.text.proofs.Ends.{line_length_step}
+use Rattle.text.proofs.splitting.line_end.Goals as goal
 
-pub returns-then-text-end-eq10 : need.returns-then-text-end-eq10
+pub returns-then-text-end-eq10 : goal.returns-then-text-end-eq10
 returns-then-text-end-eq10 c =
-    let step = line-length-step (c .args .text .now) (c .loop-end .end) (omega arith) in
-    record { value = grind (arith, tells); within = omega arith }
+    let step = line_length_step c.args.text.now c.loop-end.end (omega arith) in
+    record { value = grind (arith, nat_tests); within = omega arith }
 
-pub loop-end-again : need.loop-end-again
-loop-end-again c =
-    let step = line-length-step (c .args .text .now) (c .loop-end .end) (omega arith) in
-    grind (arith, tells)
+pub loop-end-preserved : goal.loop-end-preserved
+loop-end-preserved c =
+    let step = line_length_step c.args.text.now c.loop-end.end (omega arith) in
+    grind (arith, nat_tests)
 
-pub returns : need.returns
+pub returns : goal.returns
 returns c =
     record {
-      value = omega (arith, c .loop-end .inv, at-drop-all line-length (c .args .text .now) (c .loop-end .end) (c .loop-end-test .left));
+      value = omega (arith, c.loop-end.invariant, at_drop_all line_length c.args.text.now c.loop-end.end c.loop-end-test.false);
       within = omega arith;
     }

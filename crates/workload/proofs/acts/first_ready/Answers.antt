@@ -1,14 +1,12 @@
-use mathlib.Core.Path.{sym}
-use native.Mathlib.Omega.{arith}
-use borrow.Author.Needs.{needs}
-use Rattle·model.proofs.Searches.{least-is, least-none}
-use Rattle·model.specs.Machine.{ready-at}
-use Rattle·workload·proofs.acts.first_ready.Needs as need
+use Rattle.std.proofs.Common.{sym, arith, rules}
+use Rattle.model.proofs.Searches.{least_is, least_none}
+use Rattle.model.specs.Machine.{ready_at}
+use Rattle.workload.proofs.acts.first_ready.Goals as goal
 
-pub returns-in-Ready : need.returns-in-Ready
+pub returns-in-Ready : goal.returns-in-Ready
 returns-in-Ready c =
-    sym (least-is (ready-at (c .args .rows .now)) 0 _ (c .loop-i .i)
-    (record { passed = search needs; above = omega arith; below = omega arith; first = λ k some lt. c .loop-i .inv k lt }))
+    sym (least_is (ready_at c.args.rows.now) 0 _ c.loop-i.i
+    (record { passed = search rules; above = omega arith; below = omega arith; first = λ k some lt. c.loop-i.invariant k lt }))
 
-pub returns : need.returns
-returns c = sym (least-none (ready-at (c .args .rows .now)) 0 _ (λ k some k-below. c .loop-i .inv k (omega arith)))
+pub returns : goal.returns
+returns c = sym (least_none (ready_at c.args.rows.now) 0 _ (λ k some k-below. c.loop-i.invariant k (omega arith)))

@@ -1,9 +1,8 @@
-use mathlib.Core.Path.{ap}
-use Prim.Native.Nat.{ℕ, _+_, _*_}
-use Rattle·model.specs.Table.{ceil}
-use Rattle·workload·proofs.stretches.asks.Needs as need
+use Rattle.std.proofs.Common.{ℕ, ◌+◌, ◌*◌, ap}
+use Rattle.model.specs.Table.{ceil}
+use Rattle.workload.proofs.stretches.asks.Goals as goal
 
-pub returns : need.returns
+pub returns : goal.returns
 unfolding ceil
 returns c =
-    ap (λ (n : ℕ). c .args .stream .left + c .args .stream .cost * ceil n (c .args .stream .separation)) (c .saturating-sub-ahead .ensures)
+    ap (λ (n : ℕ). c.args.stream.left + c.args.stream.cost * ceil n c.args.stream.separation) c.saturating_sub-ahead.ensures

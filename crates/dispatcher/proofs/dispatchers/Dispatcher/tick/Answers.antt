@@ -1,29 +1,27 @@
-use mathlib.Core.Path.{refl, subst}
-use mathlib.Core.Bool.{_&&_}
-use lib.Dec.{leb}
-use Rattle·model.proofs.Histories.{stays-on}
-use Rattle·workload.specs.Acts.{Turns, slack-in}
-use Rattle·workload.specs.Workloads.{rows-in}
-use Rattle·workload.specs.declared.turns.Turn.{Turn}
-use Rattle·dispatcher·proofs.Turning.{duty-turns}
-use Rattle·dispatcher·proofs.dispatchers.Dispatcher.tick.Needs as need
+use Rattle.std.proofs.Common.{◌&&◌, leb, refl, subst}
+use Rattle.model.proofs.Histories.{stays_on}
+use Rattle.workload.specs.Acts.{Turns, slack_in}
+use Rattle.workload.specs.Workloads.{rows_in}
+use Rattle.workload.specs.declared.turns.Turn.{Turn}
+use Rattle.dispatcher.proofs.Turning.{duty_turns}
+use Rattle.dispatcher.proofs.dispatchers.Dispatcher.tick.Goals as goal
 
-pub returns-in-Duty : need.returns-in-Duty
+pub returns-in-Duty : goal.returns-in-Duty
 returns-in-Duty g c =
-    let ticked = c .in-Continue-slack .ensures tt in
-    let w = c .args .self .now .work in
-    let w′ = c .tick .last .self in
-    let q = c .args .self .now .queue in
+    let ticked = c.in_ok-slack.ensures in
+    let w = c.args.self.now.work in
+    let w' = c.tick.new.self in
+    let q = c.args.self.now.queue in
     let turns =
-    subst (λ (turn : Turn). Turns (c .errand-waits-errand-waits .result && leb 1 (slack-in w)) w turn (rows-in w′)) (c .in-Duty .is) (ticked .3) in
+    subst (λ (turn : Turn). Turns (c.errand_waits-errand_waits.result && leb 1 (slack_in w)) w turn (rows_in w')) c.in-Duty.is ticked.3 in
     record {
       step = (
-        ticked .0,
-        ticked .1,
-        ticked .2,
-        duty-turns w w′ (g .Q·Queue .meaning q) (c .errand-waits-errand-waits .result) (c .errand-waits-errand-waits .ensures)
-            (c .in-Duty .row) turns,
+        ticked.0,
+        ticked.1,
+        ticked.2,
+        duty_turns w w' (g.Q.Queue.meaning q) c.errand_waits-errand_waits.result c.errand_waits-errand_waits.ensures
+            c.in-Duty.row turns,
       );
-      table = ticked .4;
-      history = stays-on (g .Q·Queue .arises) q q refl;
+      table = ticked.4;
+      history = stays_on g.Q.Queue.arises q q refl;
     }

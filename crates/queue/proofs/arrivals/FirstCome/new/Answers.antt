@@ -1,15 +1,11 @@
-use borrow.Author.Needs.{needs}
-use denote.Ref.{now}
-use mathlib.Core.Path.{_≡_, ap}
-use mathlib.Core.List.{[]}
-use lib.ListN.{take}
-use Rattle·queue·specs.Lines.{errands}
-use Rattle·queue·proofs.arrivals.FirstCome.new.Needs as need
+use Rattle.std.proofs.Common.{◌≡◌, [], take, ap, rules}
+use Rattle.queue.specs.Lines.{errands}
+use Rattle.queue.proofs.arrivals.FirstCome.new.Goals as goal
 
-pub ghost-result : need.ghost-result
-ghost-result c = (search needs, (∣ ([], ap errands (c .new .ensures .holds)) ∣₁, tt))
+pub invariant_of-result : goal.invariant_of-result
+invariant_of-result c = record { once = search rules; arose = ∣ ([], ap errands c.new.ensures.holds) ∣₁ }
 
-pub returns : need.returns
+pub returns : goal.returns
 returns c =
-    let own : now (c .new .result .slots) ≡ take 1024 (c .args .slots .now) = cc in
-    record { empty = c .new .ensures .holds; history = ap errands (c .new .ensures .holds); slots = own }
+    let own : c.new.result.slots.now ≡ take 1024 c.args.slots.now = cc in
+    record { empty = c.new.ensures.holds; history = ap errands c.new.ensures.holds; slots = own }

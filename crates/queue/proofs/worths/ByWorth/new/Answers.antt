@@ -1,14 +1,10 @@
-use borrow.Author.Needs.{needs}
-use denote.Ref.{now}
-use mathlib.Core.Path.{_≡_, refl}
-use mathlib.Core.List.{[]}
-use lib.ListN.{take}
-use Rattle·queue·proofs.worths.ByWorth.new.Needs as need
+use Rattle.std.proofs.Common.{◌≡◌, [], take, refl, rules}
+use Rattle.queue.proofs.worths.ByWorth.new.Goals as goal
 
-pub ghost-result : need.ghost-result
-ghost-result c = (search needs, (search needs, (∣ ([], ([], c .new .ensures .holds, refl)) ∣₁, tt)))
+pub invariant_of-result : goal.invariant_of-result
+invariant_of-result c = record { once = search rules; ordered = search rules; arose = ∣ ([], ([], c.new.ensures.holds, refl)) ∣₁ }
 
-pub returns : need.returns
+pub returns : goal.returns
 returns c =
-    let own : now (c .new .result .slots) ≡ take 1024 (c .args .slots .now) = cc in
-    record { empty = c .new .ensures .holds; history = ([], c .new .ensures .holds, refl); slots = own }
+    let own : c.new.result.slots.now ≡ take 1024 c.args.slots.now = cc in
+    record { empty = c.new.ensures.holds; history = ([], c.new.ensures.holds, refl); slots = own }

@@ -1,34 +1,31 @@
-use Prim.Native.Nat.{_<_, _≤_}
-use mathlib.Core.Bool.{cond}
-use native.Mathlib.Omega.{arith}
-use lib.ListN.{length}
-use Rattle·model.specs.Runs.{given-back, of-tick, was-accepted}
-use Rattle·model.specs.Totals.{any-errand-had, asked}
-use Rattle·rendering·proofs.Rendered.{total-all, total-more}
-use Rattle·rendering·proofs.totals.Totals.of.Needs as need
+use Rattle.std.proofs.Common.{◌<◌, ◌≤◌, cond, length, arith}
+use Rattle.model.specs.Runs.{given_back, of_tick, was_accepted}
+use Rattle.model.specs.Totals.{any_errand_had, asked}
+use Rattle.rendering.proofs.Rendered.{total_all, total_more}
+use Rattle.rendering.proofs.totals.Totals.of.Goals as goal
 
-pub loop-entry-again : need.loop-entry-again
-loop-entry-again c =
-    let script = c .args .script .now in
-    let i = c .loop-entry .entry-index in
+pub loop-entry-preserved : goal.loop-entry-preserved
+loop-entry-preserved c =
+    let script = c.args.script.now in
+    let i = c.loop-entry.entry-index in
     let short : i < length script = omega arith in
-    let (accepted, served, withdrawn, few-accepted, few-served, few-withdrawn) = c .loop-entry .inv in (
-      omega (arith, accepted, total-more script i (λ call answer. cond (was-accepted answer) (asked call) 0) short, c .accepted-by .ensures, c .from-accepted .ensures),
-      omega (arith, served, total-more script i (λ call answer. of-tick any-errand-had answer) short, c .served-by .ensures, c .from-served .ensures),
-      omega (arith, withdrawn, total-more script i (λ call answer. given-back answer) short, c .withdrawn-by .ensures, c .from-withdrawn .ensures),
-      omega (arith, few-accepted, c .accepted-by .ok, c .from-accepted .ensures),
-      omega (arith, few-served, c .served-by .ok, c .from-served .ensures),
-      omega (arith, few-withdrawn, c .withdrawn-by .ok, c .from-withdrawn .ensures),
+    let (accepted, served, withdrawn, few-accepted, few-served, few-withdrawn) = c.loop-entry.invariant in (
+      omega (arith, accepted, total_more script i (λ call answer. cond (was_accepted answer) (asked call) 0) short, c.accepted_by.ensures, c.from-accepted.ensures),
+      omega (arith, served, total_more script i (λ call answer. of_tick any_errand_had answer) short, c.served_by.ensures, c.from-served.ensures),
+      omega (arith, withdrawn, total_more script i (λ call answer. given_back answer) short, c.withdrawn_by.ensures, c.from-withdrawn.ensures),
+      omega (arith, few-accepted, c.accepted_by.type_inv, c.from-accepted.ensures),
+      omega (arith, few-served, c.served_by.type_inv, c.from-served.ensures),
+      omega (arith, few-withdrawn, c.withdrawn_by.type_inv, c.from-withdrawn.ensures),
     )
 
-pub returns : need.returns
+pub returns : goal.returns
 returns c =
-    let script = c .args .script .now in
-    let i = c .loop-entry .entry-index in
+    let script = c.args.script.now in
+    let i = c.loop-entry.entry-index in
     let long : length script ≤ i = omega arith in
-    let (accepted, served, withdrawn, few-accepted, few-served, few-withdrawn) = c .loop-entry .inv in
+    let (accepted, served, withdrawn, few-accepted, few-served, few-withdrawn) = c.loop-entry.invariant in
     record {
-      accepted = omega (arith, accepted, total-all script i (λ call answer. cond (was-accepted answer) (asked call) 0) long);
-      served = omega (arith, served, total-all script i (λ call answer. of-tick any-errand-had answer) long);
-      withdrawn = omega (arith, withdrawn, total-all script i (λ call answer. given-back answer) long);
+      accepted = omega (arith, accepted, total_all script i (λ call answer. cond (was_accepted answer) (asked call) 0) long);
+      served = omega (arith, served, total_all script i (λ call answer. of_tick any_errand_had answer) long);
+      withdrawn = omega (arith, withdrawn, total_all script i (λ call answer. given_back answer) long);
     }

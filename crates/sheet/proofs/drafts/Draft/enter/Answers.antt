@@ -1,27 +1,26 @@
-use mathlib.Core.List.{_++_}
-use mathlib.Core.Path.{sym, _∙_}
-use Rattle·std.proofs.shelf.Results.{err-from-errBy}
-use Rattle·text.specs.Lines.{line-of}
-use Rattle·sheet·specs.Orders.{sheet-faults, so-far, table-faults, with-said}
-use Rattle·forms.specs.Sayings.{forms-faults, letters-faults, says}
-use Rattle·sheet·proofs.Judgements.{judged-before}
-use Rattle·sheet·proofs.Lined.{by-table, room-in-place}
-use Rattle·sheet·proofs.drafts.Draft.enter.Needs as need
+use Rattle.std.proofs.Common.{◌++◌, sym, ◌∙◌}
+use Rattle.std.proofs.lemmas.Result.{err_from_is_err_and}
+use Rattle.text.specs.Lines.{line_of}
+use Rattle.sheet.specs.Orders.{sheet_faults, so_far, table_faults, with_said}
+use Rattle.forms.specs.Sayings.{forms_faults, letters_faults, says}
+use Rattle.sheet.proofs.Judgements.{judged_before}
+use Rattle.sheet.proofs.Lined.{by_table, room_in_place}
+use Rattle.sheet.proofs.drafts.Draft.enter.Goals as goal
 
-pub returns-in-Break-said : need.returns-in-Break-said
-returns-in-Break-said c =
-    let l = line-of (c .args .line) in
-    let s = so-far (c .args .self .now) in
-    let p = err-from-errBy (c .from-residual .result) (c .from-residual .ensures .1) in
-    rw (p .1, p .2)
-    (judged-before (says l) (with-said s l (says l)) (letters-faults l ++ forms-faults l ++ sheet-faults s l) (table-faults s l) _ (c .in-Break-said .ensures tt))
+pub returns-in_err-said : goal.returns-in_err-said
+returns-in_err-said c =
+    let l = line_of c.args.line in
+    let s = so_far c.args.self.now in
+    let p = err_from_is_err_and c.from_residual.result c.from_residual.ensures.1 in
+    rw (p.1, p.2)
+    (judged_before (says l) (with_said s l (says l)) (letters_faults l ++ forms_faults l ++ sheet_faults s l) (table_faults s l) _ c.in_err-said.ensures)
 
-pub take-requires : need.take-requires
-take-requires c κs =
-    room-in-place (so-far (c .args .self .now)) (line-of (c .args .line)) (c .in-Continue-said .said) (c .in-Continue-said .ensures tt)
+pub take-requires : goal.take-requires
+take-requires c =
+    room_in_place (so_far c.args.self.now) (line_of c.args.line) c.in_ok-said.said c.in_ok-said.ensures
 
-pub returns : need.returns
+pub returns : goal.returns
 returns c =
-    let l = line-of (c .args .line) in
-    let s = so-far (c .args .self .now) in
-    c .take .ensures ∙ sym (by-table s l (c .in-Continue-said .said) (c .in-Continue-said .ensures tt))
+    let l = line_of c.args.line in
+    let s = so_far c.args.self.now in
+    c.take.ensures ∙ sym (by_table s l c.in_ok-said.said c.in_ok-said.ensures)

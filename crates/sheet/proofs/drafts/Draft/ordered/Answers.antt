@@ -1,36 +1,34 @@
-use mathlib.Core.List.{_++_}
-use mathlib.Core.Path.{ap, _∙_}
-use Rattle·std.specs.declared.result.Result.the-variants.{Err}
-use Rattle·std.proofs.shelf.Results.{err-from-errBy}
-use Rattle·text.specs.Faults.{fault}
-use Rattle·text.specs.Lines.{line-of}
-use Rattle·text.specs.declared.faults.Layer.the-variants.{Sheet as Sheet-layer}
-use Rattle·text.specs.declared.faults.Place.{Place}
-use Rattle·sheet·specs.Orders.{sheet-faults, so-far}
-use Rattle·forms.specs.Sayings.{forms-faults, letters-faults, says}
-use Rattle·sheet·proofs.Judgements.{judged-before}
-use Rattle·sheet·proofs.Lined.{in-its-place, no-room, out-of-order}
-use Rattle·sheet·proofs.drafts.Draft.ordered.Needs as need
+use Rattle.std.proofs.Common.{◌++◌, Err, ap, ◌∙◌}
+use Rattle.std.proofs.lemmas.Result.{err_from_is_err_and}
+use Rattle.text.specs.Faults.{fault}
+use Rattle.text.specs.Lines.{line_of}
+use Rattle.text.specs.declared.faults.Layer.TheVariants.{Sheet as SheetLayer}
+use Rattle.text.specs.declared.faults.Place.{Place}
+use Rattle.sheet.specs.Orders.{sheet_faults, so_far}
+use Rattle.forms.specs.Sayings.{forms_faults, letters_faults, says}
+use Rattle.sheet.proofs.Judgements.{judged_before}
+use Rattle.sheet.proofs.Lined.{in_its_place, no_room, out_of_order}
+use Rattle.sheet.proofs.drafts.Draft.ordered.Goals as goal
 
-pub returns-in-Break-said : need.returns-in-Break-said
-returns-in-Break-said c =
-    let l = line-of (c .args .line) in
-    let p = err-from-errBy (c .from-residual .result) (c .from-residual .ensures .1) in
-    rw (p .1, p .2)
-    (judged-before (says l) (says l) (letters-faults l ++ forms-faults l) (sheet-faults (so-far (c .args .self .now)) l) _ (c .in-Break-said .ensures tt))
+pub returns-in_err-said : goal.returns-in_err-said
+returns-in_err-said c =
+    let l = line_of c.args.line in
+    let p = err_from_is_err_and c.from_residual.result c.from_residual.ensures.1 in
+    rw (p.1, p.2)
+    (judged_before (says l) (says l) (letters_faults l ++ forms_faults l) (sheet_faults (so_far c.args.self.now) l) _ c.in_err-said.ensures)
 
-pub returns-then-not-in-order : need.returns-then-not-in-order
-returns-then-not-in-order c =
-    ap (λ (p : Place). Err (fault 16 Sheet-layer p)) (c .place .ensures)
-    ∙ out-of-order (so-far (c .args .self .now)) (line-of (c .args .line)) (c .in-Continue-said .said) (c .in-Continue-said .ensures tt) (c .if-not-in-order .ensures tt)
+pub returns-then-not-in_order : goal.returns-then-not-in_order
+returns-then-not-in_order c =
+    ap (λ (p : Place). Err (fault 16 SheetLayer p)) c.place.ensures
+    ∙ out_of_order (so_far c.args.self.now) (line_of c.args.line) c.in_ok-said.said c.in_ok-said.ensures c.if-not-in_order.ensures
 
-pub returns-then-not-has-room : need.returns-then-not-has-room
-returns-then-not-has-room c =
-    ap (λ (p : Place). Err (fault 17 Sheet-layer p)) (c .place-then-not-has-room .ensures)
-    ∙ no-room (so-far (c .args .self .now)) (line-of (c .args .line)) (c .in-Continue-said .said) (c .in-Continue-said .ensures tt)
-    (c .if-not-in-order .ensures tt) (c .if-not-has-room .ensures tt)
+pub returns-then-not-has_room : goal.returns-then-not-has_room
+returns-then-not-has_room c =
+    ap (λ (p : Place). Err (fault 17 SheetLayer p)) c.place-then-not-has_room.ensures
+    ∙ no_room (so_far c.args.self.now) (line_of c.args.line) c.in_ok-said.said c.in_ok-said.ensures
+    c.if-not-in_order.ensures c.if-not-has_room.ensures
 
-pub returns : need.returns
+pub returns : goal.returns
 returns c =
-    in-its-place (so-far (c .args .self .now)) (line-of (c .args .line)) (c .in-Continue-said .said) (c .in-Continue-said .ensures tt)
-    (c .if-not-in-order .ensures tt) (c .if-not-has-room .ensures tt)
+    in_its_place (so_far c.args.self.now) (line_of c.args.line) c.in_ok-said.said c.in_ok-said.ensures
+    c.if-not-in_order.ensures c.if-not-has_room.ensures

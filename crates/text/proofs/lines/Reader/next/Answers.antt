@@ -1,25 +1,22 @@
-use mathlib.Core.Path.{_≡_, refl, ap}
-use mathlib.Core.List.{[]}
-use native.Mathlib.Omega.{arith}
-use lib.ListN.{length, length-drop, length-take}
-use Rattle·std.proofs.shelf.Lists.{drop-all}
-use Rattle·text·specs.Lines.{lines, lines-left}
-use Rattle·text·proofs.Ends.{lines-from}
-use Rattle·text·proofs.lines.Reader.next.Needs as need
+use Rattle.std.proofs.Common.{◌≡◌, [], length, refl, ap, arith, length-drop, length-take}
+use Rattle.std.proofs.lemmas.List.{drop_all}
+use Rattle.text.specs.Lines.{lines, lines_left}
+use Rattle.text.proofs.Ends.{lines_from}
+use Rattle.text.proofs.lines.Reader.next.Goals as goal
 
-pub returns-then-start-text : need.returns-then-start-text
+pub returns-then-start-text : goal.returns-then-start-text
 returns-then-start-text c =
-    let self = c .args .self .now in
-    let none : lines-left self ≡ [] = ap (lines (self .place)) (drop-all (self .place .byte) (self .text .now) (omega arith)) in
+    let self = c.args.self.now in
+    let none : lines_left self ≡ [] = ap (lines self.place) (drop_all self.place.byte self.text.now (omega arith)) in
     record { hands = (none, none); counts = refl; stands = tt; keeps = refl }
 
-pub ghost-self : need.ghost-self
-ghost-self c = (omega arith, (omega (arith, c .args .self .now .counts), tt))
+pub invariant_of-self : goal.invariant_of-self
+invariant_of-self c = record { within = omega arith; counts = omega (arith, c.args.self.now.counts) }
 
-pub returns : need.returns
+pub returns : goal.returns
 returns c =
-    let self = c .args .self .now in
-    let split = lines-from (self .text .now) (self .place) (c .line-end-end .result) (c .min .result) (omega arith) (c .line-end-end .ensures .value) (c .min .ensures) in
+    let self = c.args.self.now in
+    let split = lines_from self.text.now self.place c.line_end-end.result c.min.result (omega arith) c.line_end-end.ensures.value c.min.ensures in
     record {
       hands = split;
       counts = omega (arith, ap length split);

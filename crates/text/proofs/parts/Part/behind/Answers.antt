@@ -1,6 +1,5 @@
-use native.Mathlib.Omega.{arith}
-use lib.ListN.{length-drop, length-take}
-use Rattle·text·proofs.parts.Part.behind.Needs as need
+use Rattle.std.proofs.Common.{arith, length-drop, length-take}
+use Rattle.text.proofs.parts.Part.behind.Goals as goal
 
-pub returns : need.returns
-returns c = simp (length-drop, length-take) (omega (arith, c .max .ensures, c .min .ensures))
+pub returns : goal.returns
+returns c = simp (length-drop, length-take) (omega (arith, c.max.ensures, c.min.ensures))

@@ -1,10 +1,9 @@
-use mathlib.Core.Path.{sym}
-use native.Mathlib.Omega.{arith}
-use Rattle·workload·proofs.Running.{nobody-keeps, ready-few}
-use Rattle·workload·proofs.workloads.Workload.run.Needs as need
+use Rattle.std.proofs.Common.{sym, arith}
+use Rattle.workload.proofs.Running.{nobody_keeps, ready_few}
+use Rattle.workload.proofs.workloads.Workload.run.Goals as goal
 
-pub cast-result : need.cast-result
-cast-result c = omega (arith, ready-few (c .args .self .now) (c .in-Some .row) (sym (c .in-Some .ensures tt)))
+pub overflow_cast-result : goal.overflow_cast-result
+overflow_cast-result c = omega (arith, ready_few c.args.self.now c.in-Some.row (sym c.in-Some.ensures))
 
-pub ghost-self : need.ghost-self
-ghost-self c = (nobody-keeps (c .args .self .now) (sym (c .in-None .ensures tt)), tt)
+pub invariant_of-self : goal.invariant_of-self
+invariant_of-self c = record { keeps = nobody_keeps c.args.self.now (sym c.in-None.ensures) }

@@ -1,56 +1,51 @@
-use mathlib.Core.Path.{_≡_, refl, ap, _∙_}
-use mathlib.Core.List.{List}
-use Prim.Native.Nat.{ℕ, _+_}
-use native.Mathlib.Omega.{arith}
-use lib.ListN.{length, getD, set, take}
-use Rattle·model.specs.Kept.{kept}
-use Rattle·model.specs.Reckoning.{no-row}
-use Rattle·model.specs.Table.{duty-at}
-use Rattle·model.specs.declared.duties.Duty.{Duty}
-use Rattle·model.specs.declared.rows.Row.{Row}
-use Rattle·model.specs.declared.rows.RowCall.the-variants.{Run}
-use Rattle·workload·proofs.Running.{ready-few, ready-inside, row-run, run-kept}
-use Rattle·workload·specs.Acts.{acted}
-use Rattle·workload·specs.Workloads.{table-in}
-use Rattle·workload·specs.declared.workloads.Workload.{Workload}
-use Rattle·workload·proofs.workloads.Workload.run_row.Needs as need
+use Rattle.std.proofs.Common.{◌≡◌, ℕ, ◌+◌, List, length, get_or, take, set, refl, ap, ◌∙◌, arith}
+use Rattle.model.specs.Kept.{kept}
+use Rattle.model.specs.Reckoning.{no_row}
+use Rattle.model.specs.Table.{duty_at}
+use Rattle.model.specs.declared.duties.Duty.{Duty}
+use Rattle.model.specs.declared.rows.Row.{Row}
+use Rattle.model.specs.declared.rows.RowCall.TheVariants.{Run}
+use Rattle.workload.proofs.Running.{ready_few, ready_inside, row_run, run_kept}
+use Rattle.workload.specs.Acts.{acted}
+use Rattle.workload.specs.Workloads.{table_in}
+use Rattle.workload.specs.declared.workloads.Workload.{Workload}
+use Rattle.workload.proofs.workloads.Workload.run_row.Goals as goal
 
 -- The slots after the row was run, by the table's own duty.
-run-slots : (w : Workload) (i : ℕ) (duties : List Duty) (row : Row)
-    → duties ≡ table-in w
-    → row ≡ acted (duty-at duties i) (w .clock) (getD (w .rows) i no-row) Run
-    → take (length (table-in w)) (set (w .rows) i row)
-    ≡ take (length (table-in w)) (set (w .rows) i (acted (duty-at (table-in w) i) (w .clock) (getD (w .rows) i no-row) Run))
-run-slots w i duties row same leaves =
-    ap (λ (x : Row). take (length (table-in w)) (set (w .rows) i x))
-    (leaves ∙ ap (λ (table : List Duty). acted (duty-at table i) (w .clock) (getD (w .rows) i no-row) Run) same)
+run_slots : (w : Workload) (i : ℕ) (duties : List Duty) (row : Row)
+    → duties ≡ table_in w
+    → row ≡ acted (duty_at duties i) w.clock (get_or w.rows i no_row) Run
+    → take (length (table_in w)) (set w.rows i row)
+    ≡ take (length (table_in w)) (set w.rows i (acted (duty_at (table_in w) i) w.clock (get_or w.rows i no_row) Run))
+run_slots w i duties row same leaves =
+    ap (λ (x : Row). take (length (table_in w)) (set w.rows i x))
+    (leaves ∙ ap (λ (table : List Duty). acted (duty_at table i) w.clock (get_or w.rows i no_row) Run) same)
 
-pub offset-rows-row : need.offset-rows-row
-offset-rows-row c = omega (arith, ready-few (c .args .self .now) (c .args .row) (c .pre .1))
+pub offset_bounds-rows-row : goal.offset_bounds-rows-row
+offset_bounds-rows-row c = omega (arith, ready_few c.args.self.now c.args.row c.requires.1)
 
-pub index-rows-row : need.index-rows-row
-index-rows-row c = omega (arith, ready-inside (c .args .self .now) (c .args .row) (c .pre .1), ap length (c .rows .ensures))
+pub bounds-rows-row : goal.bounds-rows-row
+bounds-rows-row c = omega (arith, ready_inside c.args.self.now c.args.row c.requires.1, ap length c.rows.ensures)
 
-pub offset-self-row : need.offset-self-row
-offset-self-row c = omega (arith, ready-few (c .args .self .now) (c .args .row) (c .pre .1))
+pub offset_bounds-self-row : goal.offset_bounds-self-row
+offset_bounds-self-row c = omega (arith, ready_few c.args.self.now c.args.row c.requires.1)
 
-pub index-self-row : need.index-self-row
-index-self-row c = ready-few (c .args .self .now) (c .args .row) (c .pre .1)
+pub bounds-self-row : goal.bounds-self-row
+bounds-self-row c = ready_few c.args.self.now c.args.row c.requires.1
 
-pub ghost-self : need.ghost-self
-ghost-self c =
-    let w = c .args .self .now in (
-      ap (kept (w .clock + 1) (table-in w))
-          (run-slots w (c .args .row) _ _ (c .rows .ensures) (c .act .ensures .leaves) ∙ row-run w (c .args .row) (c .pre .1))
-          ∙ run-kept w (c .args .row) (c .pre .1),
-      tt,
-    )
+pub invariant_of-self : goal.invariant_of-self
+invariant_of-self c =
+    let w = c.args.self.now in record {
+      keeps = ap (kept (w.clock + 1) (table_in w))
+          (run_slots w c.args.row _ _ c.rows.ensures c.act.ensures.leaves ∙ row_run w c.args.row c.requires.1)
+          ∙ run_kept w c.args.row c.requires.1;
+    }
 
-pub returns : need.returns
+pub returns : goal.returns
 returns c =
-    let w = c .args .self .now in
+    let w = c.args.self.now in
     record {
-      rows = run-slots w (c .args .row) _ _ (c .rows .ensures) (c .act .ensures .leaves) ∙ row-run w (c .args .row) (c .pre .1);
+      rows = run_slots w c.args.row _ _ c.rows.ensures c.act.ensures.leaves ∙ row_run w c.args.row c.requires.1;
       table = refl;
       clock = refl;
     }

@@ -1,25 +1,22 @@
-use mathlib.Core.Path.{_≡_, ap, refl, _∙_}
-use Prim.Native.Nat.{_≤_}
-use native.Mathlib.Omega.{arith}
-use lib.ListN.{length, replicate, take}
-use Rattle·std.proofs.shelf.Lists.{take-replicate}
-use Rattle·model.proofs.Covering.{fresh-kept}
-use Rattle·model.specs.Kept.{kept}
-use Rattle·model.specs.declared.rows.Row.the-variants.{Idle}
-use Rattle·table.specs.Settings.{table-of}
-use Rattle·table.specs.declared.settings.Setting.{Setting}
-use Rattle·workload·proofs.workloads.Workload.start.Needs as need
+use Rattle.std.proofs.Common.{◌≡◌, ◌≤◌, length, take, replicate, refl, ap, ◌∙◌, arith}
+use Rattle.std.proofs.lemmas.List.{take-replicate}
+use Rattle.model.proofs.Covering.{fresh_kept}
+use Rattle.model.specs.Kept.{kept}
+use Rattle.model.specs.declared.rows.Row.TheVariants.{Idle}
+use Rattle.table.specs.Settings.{table_of}
+use Rattle.table.specs.declared.settings.Setting.{Setting}
+use Rattle.workload.proofs.workloads.Workload.start.Goals as goal
 
 -- The first of sixteen idle slots are the fresh rows.
-idle-rows : (s : Setting) → take (length (table-of s)) (replicate 16 (Idle 0)) ≡ replicate (length (table-of s)) (Idle 0)
-idle-rows s =
-    let few : length (table-of s) ≤ 16 = omega (arith, s .counts, s .fits) in
-    take-replicate (length (table-of s)) 16 (Idle 0) few
+idle_rows : (s : Setting) → take (length (table_of s)) (replicate 16 (Idle 0)) ≡ replicate (length (table_of s)) (Idle 0)
+idle_rows s =
+    let few : length (table_of s) ≤ 16 = omega (arith, s.counts, s.fits) in
+    take-replicate (length (table_of s)) 16 (Idle 0) few
 
-pub ghost-result : need.ghost-result
-ghost-result c =
-    let s = c .args .setting in
-    (ap (kept 0 (table-of s)) (idle-rows s) ∙ fresh-kept (table-of s) (s .admits), tt)
+pub invariant_of-result : goal.invariant_of-result
+invariant_of-result c =
+    let s = c.args.setting in
+    record { keeps = ap (kept 0 (table_of s)) (idle_rows s) ∙ fresh_kept (table_of s) s.admits }
 
-pub returns : need.returns
-returns c = record { table = refl; rows = idle-rows (c .args .setting); clock = refl }
+pub returns : goal.returns
+returns c = record { table = refl; rows = idle_rows c.args.setting; clock = refl }

@@ -1,12 +1,11 @@
-use Prim.Native.Nat.{_≤_}
-use native.Mathlib.Omega.{arith}
-use Rattle·model.proofs.Ticks.{spare-tick-keeps}
-use Rattle·workload·specs.Acts.{slack-in}
-use Rattle·workload·specs.Workloads.{rows-in, table-in}
-use Rattle·workload·proofs.workloads.Workload.tick.Needs as need
+use Rattle.std.proofs.Common.{◌≤◌, arith}
+use Rattle.model.proofs.Ticks.{spare_tick_keeps}
+use Rattle.workload.specs.Acts.{slack_in}
+use Rattle.workload.specs.Workloads.{rows_in, table_in}
+use Rattle.workload.proofs.workloads.Workload.tick.Goals as goal
 
-pub ghost-self : need.ghost-self
-ghost-self c =
-    let w = c .args .self .now in
-    let some : 1 ≤ slack-in w = omega (arith, c .slack-slack .ensures) in
-    (spare-tick-keeps (table-in w) (w .setting .admits) (w .clock) (rows-in w) (w .keeps) some, tt)
+pub invariant_of-self : goal.invariant_of-self
+invariant_of-self c =
+    let w = c.args.self.now in
+    let some : 1 ≤ slack_in w = omega (arith, c.slack-slack.ensures) in
+    record { keeps = spare_tick_keeps (table_in w) w.setting.admits w.clock (rows_in w) w.keeps some }

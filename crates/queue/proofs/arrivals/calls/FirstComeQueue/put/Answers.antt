@@ -1,34 +1,32 @@
-use borrow.Author.Needs.{needs}
-use mathlib.Core.Bool.{true}
-use mathlib.Core.Path.{_≡_, subst, ap, _∙_}
-use Rattle·model.specs.Histories.{by-put}
-use Rattle·model.specs.Queues.{Put, errand-within}
-use Rattle·queue·specs.Lines.{line-meaning}
-use Rattle·queue·specs.Pasts.{First-come}
-use Rattle·queue·proofs.Arriving.{first-come-put, still-arose}
-use Rattle·queue·proofs.Calling.{kept-put}
-use Rattle·queue·proofs.arrivals.calls.FirstComeQueue.put.Needs as need
+use Rattle.std.proofs.Common.{◌≡◌, true, ap, ◌∙◌, subst, rules}
+use Rattle.model.specs.Histories.{by_put}
+use Rattle.model.specs.Queues.{Put, errand_within}
+use Rattle.queue.specs.Lines.{line_meaning}
+use Rattle.queue.specs.Pasts.{FirstComeLine}
+use Rattle.queue.proofs.Arriving.{first_come_put, still_arose}
+use Rattle.queue.proofs.Calling.{kept_put}
+use Rattle.queue.proofs.arrivals.calls.FirstComeQueue.put.Goals as goal
 
-pub ghost-self : need.ghost-self
-ghost-self c =
-    let l = c .args .self .now .line in
-    let m = c .put-in .last .line in
-    let s = c .in-Continue-slot .slot in
-    let made = c .in-Continue-slot .ensures tt in
-    let goes-on = first-come-put l m s (c .args .errand) (c .put-in .result) (made .1 .errand) (made .1 .worth-put) (c .put-in .ensures .lines) in
-    (search needs, (still-arose First-come l m (by-put (c .args .errand) (c .put-in .result)) goes-on (c .args .self .now .arose), tt))
+pub invariant_of-self : goal.invariant_of-self
+invariant_of-self c =
+    let l = c.args.self.now.line in
+    let m = c.put_in.new.line in
+    let s = c.in_ok-slot.slot in
+    let made = c.in_ok-slot.ensures in
+    let goes_on = first_come_put l m s c.args.errand c.put_in.result made.1.errand made.1.worth_put c.put_in.ensures.lines in
+    record { once = search rules; arose = still_arose FirstComeLine l m (by_put c.args.errand c.put_in.result) goes_on c.args.self.now.arose }
 
-pub returns : need.returns
+pub returns : goal.returns
 returns c =
-    let l = c .args .self .now .line in
-    let m = c .put-in .last .line in
-    let s = c .in-Continue-slot .slot in
-    let made = c .in-Continue-slot .ensures tt in
-    let within : errand-within (s .errand) ≡ true = ap errand-within (made .1 .errand) ∙ made .0 in
+    let l = c.args.self.now.line in
+    let m = c.put_in.new.line in
+    let s = c.in_ok-slot.slot in
+    let made = c.in_ok-slot.ensures in
+    let within : errand_within s.errand ≡ true = ap errand_within made.1.errand ∙ made.0 in
     record {
       means =
-          subst (λ e. Put (line-meaning l) e (c .put-in .result) (line-meaning m)) (made .1 .errand)
-          (c .put-in .ensures .puts within (c .args .self .now .once));
-      history = first-come-put l m s (c .args .errand) (c .put-in .result) (made .1 .errand) (made .1 .worth-put) (c .put-in .ensures .lines);
-      kept = kept-put l m s (c .put-in .result) (c .put-in .ensures .lines);
+          subst (λ e. Put (line_meaning l) e c.put_in.result (line_meaning m)) made.1.errand
+          (c.put_in.ensures.puts within c.args.self.now.once);
+      history = first_come_put l m s c.args.errand c.put_in.result made.1.errand made.1.worth_put c.put_in.ensures.lines;
+      kept = kept_put l m s c.put_in.result c.put_in.ensures.lines;
     }

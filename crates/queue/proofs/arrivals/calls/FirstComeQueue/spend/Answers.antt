@@ -1,27 +1,27 @@
-use borrow.Author.Needs.{needs}
-use Rattle·model.specs.Histories.{by-spend}
-use Rattle·queue·specs.Pasts.{First-come}
-use Rattle·queue·proofs.Arriving.{first-come-spend, still-arose}
-use Rattle·queue·proofs.Calling.{kept-spend}
-use Rattle·queue·proofs.arrivals.calls.FirstComeQueue.spend.Needs as need
+use Rattle.std.proofs.Common.{rules}
+use Rattle.model.specs.Histories.{by_spend}
+use Rattle.queue.specs.Pasts.{FirstComeLine}
+use Rattle.queue.proofs.Arriving.{first_come_spend, still_arose}
+use Rattle.queue.proofs.Calling.{kept_spend}
+use Rattle.queue.proofs.arrivals.calls.FirstComeQueue.spend.Goals as goal
 
-pub ghost-self : need.ghost-self
-ghost-self c =
-    let l = c .args .self .now .line in
-    let m = c .spend-first .last .line in
-    let once = c .args .self .now .once in
-    let means = c .spend-first .ensures .spends once in
-    let goes-on = first-come-spend l m (c .spend-first .result) means once (c .spend-first .ensures .lines) in
-    (search needs, (still-arose First-come l m (by-spend (c .spend-first .result)) goes-on (c .args .self .now .arose), tt))
+pub invariant_of-self : goal.invariant_of-self
+invariant_of-self c =
+    let l = c.args.self.now.line in
+    let m = c.spend_first.new.line in
+    let once = c.args.self.now.once in
+    let means = c.spend_first.ensures.spends once in
+    let goes_on = first_come_spend l m c.spend_first.result means once c.spend_first.ensures.lines in
+    record { once = search rules; arose = still_arose FirstComeLine l m (by_spend c.spend_first.result) goes_on c.args.self.now.arose }
 
-pub returns : need.returns
+pub returns : goal.returns
 returns c =
-    let l = c .args .self .now .line in
-    let m = c .spend-first .last .line in
-    let once = c .args .self .now .once in
-    let means = c .spend-first .ensures .spends once in
+    let l = c.args.self.now.line in
+    let m = c.spend_first.new.line in
+    let once = c.args.self.now.once in
+    let means = c.spend_first.ensures.spends once in
     record {
       means = means;
-      history = first-come-spend l m (c .spend-first .result) means once (c .spend-first .ensures .lines);
-      kept = kept-spend l m (c .spend-first .result) (c .spend-first .ensures .lines);
+      history = first_come_spend l m c.spend_first.result means once c.spend_first.ensures.lines;
+      kept = kept_spend l m c.spend_first.result c.spend_first.ensures.lines;
     }

@@ -1,25 +1,25 @@
-use borrow.Author.Needs.{needs}
-use Rattle·model.specs.Histories.{by-take}
-use Rattle·queue·specs.Pasts.{First-come}
-use Rattle·queue·proofs.Arriving.{first-come-take, still-arose}
-use Rattle·queue·proofs.Calling.{kept-take}
-use Rattle·queue·proofs.arrivals.calls.FirstComeQueue.take.Needs as need
+use Rattle.std.proofs.Common.{rules}
+use Rattle.model.specs.Histories.{by_take}
+use Rattle.queue.specs.Pasts.{FirstComeLine}
+use Rattle.queue.proofs.Arriving.{first_come_take, still_arose}
+use Rattle.queue.proofs.Calling.{kept_take}
+use Rattle.queue.proofs.arrivals.calls.FirstComeQueue.take.Goals as goal
 
-pub ghost-self : need.ghost-self
-ghost-self c =
-    let l = c .args .self .now .line in
-    let m = c .take-out .last .line in
-    let once = c .args .self .now .once in
-    let goes-on = first-come-take l m (c .args .number) (c .take-out .result) once (c .take-out .ensures .lines) in
-    (search needs, (still-arose First-come l m (by-take (c .args .number) (c .take-out .result)) goes-on (c .args .self .now .arose), tt))
+pub invariant_of-self : goal.invariant_of-self
+invariant_of-self c =
+    let l = c.args.self.now.line in
+    let m = c.take_out.new.line in
+    let once = c.args.self.now.once in
+    let goes_on = first_come_take l m c.args.number c.take_out.result once c.take_out.ensures.lines in
+    record { once = search rules; arose = still_arose FirstComeLine l m (by_take c.args.number c.take_out.result) goes_on c.args.self.now.arose }
 
-pub returns : need.returns
+pub returns : goal.returns
 returns c =
-    let l = c .args .self .now .line in
-    let m = c .take-out .last .line in
-    let once = c .args .self .now .once in
+    let l = c.args.self.now.line in
+    let m = c.take_out.new.line in
+    let once = c.args.self.now.once in
     record {
-      means = c .take-out .ensures .takes once;
-      history = first-come-take l m (c .args .number) (c .take-out .result) once (c .take-out .ensures .lines);
-      kept = kept-take l m (c .args .number) (c .take-out .result) (c .take-out .ensures .lines);
+      means = c.take_out.ensures.takes once;
+      history = first_come_take l m c.args.number c.take_out.result once c.take_out.ensures.lines;
+      kept = kept_take l m c.args.number c.take_out.result c.take_out.ensures.lines;
     }

@@ -1,35 +1,33 @@
-use borrow.Author.Needs.{needs}
-use mathlib.Core.Bool.{true}
-use mathlib.Core.Path.{_≡_, subst, ap, _∙_}
-use Rattle·model.specs.Histories.{by-put}
-use Rattle·model.specs.Queues.{Put, errand-within}
-use Rattle·queue·specs.Lines.{line-meaning}
-use Rattle·queue·specs.Pasts.{By-worth}
-use Rattle·queue·proofs.Arriving.{still-arose}
-use Rattle·queue·proofs.Calling.{kept-put}
-use Rattle·queue·proofs.Joining.{by-worth-put}
-use Rattle·queue·proofs.worths.calls.ByWorthQueue.put.Needs as need
+use Rattle.std.proofs.Common.{◌≡◌, true, ap, ◌∙◌, subst, rules}
+use Rattle.model.specs.Histories.{by_put}
+use Rattle.model.specs.Queues.{Put, errand_within}
+use Rattle.queue.specs.Lines.{line_meaning}
+use Rattle.queue.specs.Pasts.{ByWorthLine}
+use Rattle.queue.proofs.Arriving.{still_arose}
+use Rattle.queue.proofs.Calling.{kept_put}
+use Rattle.queue.proofs.Joining.{by_worth_put}
+use Rattle.queue.proofs.worths.calls.ByWorthQueue.put.Goals as goal
 
-pub ghost-self : need.ghost-self
-ghost-self c =
-    let l = c .args .self .now .line in
-    let m = c .put-in .last .line in
-    let s = c .in-Continue-slot .slot in
-    let made = c .in-Continue-slot .ensures tt in
-    let goes-on = by-worth-put l m s (c .args .errand) (c .put-in .result) (made .1) (c .put-in .ensures .lines) in
-    (search needs, (search needs, (still-arose By-worth l m (by-put (c .args .errand) (c .put-in .result)) goes-on (c .args .self .now .arose), tt)))
+pub invariant_of-self : goal.invariant_of-self
+invariant_of-self c =
+    let l = c.args.self.now.line in
+    let m = c.put_in.new.line in
+    let s = c.in_ok-slot.slot in
+    let made = c.in_ok-slot.ensures in
+    let goes_on = by_worth_put l m s c.args.errand c.put_in.result made.1 c.put_in.ensures.lines in
+    record { once = search rules; ordered = search rules; arose = still_arose ByWorthLine l m (by_put c.args.errand c.put_in.result) goes_on c.args.self.now.arose }
 
-pub returns : need.returns
+pub returns : goal.returns
 returns c =
-    let l = c .args .self .now .line in
-    let m = c .put-in .last .line in
-    let s = c .in-Continue-slot .slot in
-    let made = c .in-Continue-slot .ensures tt in
-    let within : errand-within (s .errand) ≡ true = ap errand-within (made .1 .errand) ∙ made .0 in
+    let l = c.args.self.now.line in
+    let m = c.put_in.new.line in
+    let s = c.in_ok-slot.slot in
+    let made = c.in_ok-slot.ensures in
+    let within : errand_within s.errand ≡ true = ap errand_within made.1.errand ∙ made.0 in
     record {
       means =
-          subst (λ e. Put (line-meaning l) e (c .put-in .result) (line-meaning m)) (made .1 .errand)
-          (c .put-in .ensures .puts within (c .args .self .now .once));
-      history = by-worth-put l m s (c .args .errand) (c .put-in .result) (made .1) (c .put-in .ensures .lines);
-      kept = kept-put l m s (c .put-in .result) (c .put-in .ensures .lines);
+          subst (λ e. Put (line_meaning l) e c.put_in.result (line_meaning m)) made.1.errand
+          (c.put_in.ensures.puts within c.args.self.now.once);
+      history = by_worth_put l m s c.args.errand c.put_in.result made.1 c.put_in.ensures.lines;
+      kept = kept_put l m s c.put_in.result c.put_in.ensures.lines;
     }

@@ -1,26 +1,26 @@
-use borrow.Author.Needs.{needs}
-use Rattle·model.specs.Histories.{by-take}
-use Rattle·queue·specs.Pasts.{By-worth}
-use Rattle·queue·proofs.Arriving.{still-arose}
-use Rattle·queue·proofs.Calling.{kept-take}
-use Rattle·queue·proofs.Joining.{by-worth-take}
-use Rattle·queue·proofs.worths.calls.ByWorthQueue.take.Needs as need
+use Rattle.std.proofs.Common.{rules}
+use Rattle.model.specs.Histories.{by_take}
+use Rattle.queue.specs.Pasts.{ByWorthLine}
+use Rattle.queue.proofs.Arriving.{still_arose}
+use Rattle.queue.proofs.Calling.{kept_take}
+use Rattle.queue.proofs.Joining.{by_worth_take}
+use Rattle.queue.proofs.worths.calls.ByWorthQueue.take.Goals as goal
 
-pub ghost-self : need.ghost-self
-ghost-self c =
-    let l = c .args .self .now .line in
-    let m = c .take-out .last .line in
-    let once = c .args .self .now .once in
-    let goes-on = by-worth-take l m (c .args .number) (c .take-out .result) once (c .take-out .ensures .lines) in
-    (search needs, (search needs, (still-arose By-worth l m (by-take (c .args .number) (c .take-out .result)) goes-on (c .args .self .now .arose), tt)))
+pub invariant_of-self : goal.invariant_of-self
+invariant_of-self c =
+    let l = c.args.self.now.line in
+    let m = c.take_out.new.line in
+    let once = c.args.self.now.once in
+    let goes_on = by_worth_take l m c.args.number c.take_out.result once c.take_out.ensures.lines in
+    record { once = search rules; ordered = search rules; arose = still_arose ByWorthLine l m (by_take c.args.number c.take_out.result) goes_on c.args.self.now.arose }
 
-pub returns : need.returns
+pub returns : goal.returns
 returns c =
-    let l = c .args .self .now .line in
-    let m = c .take-out .last .line in
-    let once = c .args .self .now .once in
+    let l = c.args.self.now.line in
+    let m = c.take_out.new.line in
+    let once = c.args.self.now.once in
     record {
-      means = c .take-out .ensures .takes once;
-      history = by-worth-take l m (c .args .number) (c .take-out .result) once (c .take-out .ensures .lines);
-      kept = kept-take l m (c .args .number) (c .take-out .result) (c .take-out .ensures .lines);
+      means = c.take_out.ensures.takes once;
+      history = by_worth_take l m c.args.number c.take_out.result once c.take_out.ensures.lines;
+      kept = kept_take l m c.args.number c.take_out.result c.take_out.ensures.lines;
     }
