@@ -16,6 +16,7 @@ impl<Q: Queue> Dispatcher<Q> {
     pub fn start(setting: Setting, queue: Q) -> Dispatcher<Q>
         ensures state { view Q.meaning result ≡ fresh (table_of setting) (Q.meaning queue) }
         ensures table { duties result ≡ table_of setting }
+        ensures queue { result.queue ≡ queue }
     {
         Dispatcher {
             work: Workload::start(setting),
@@ -27,6 +28,7 @@ impl<Q: Queue> Dispatcher<Q> {
     pub fn release(&mut self, row: u32) -> Result<(), Refusal>
         ensures step { RowCalled (duties self.old) (view Q.meaning self.old) row Release result (view Q.meaning self.new) }
         ensures table { duties self.new ≡ duties self.old }
+        ensures queue { self.new.queue ≡ self.old.queue }
     {
         self.work.release(row)
     }
@@ -35,6 +37,7 @@ impl<Q: Queue> Dispatcher<Q> {
     pub fn done(&mut self, row: u32) -> Result<(), Refusal>
         ensures step { RowCalled (duties self.old) (view Q.meaning self.old) row Done result (view Q.meaning self.new) }
         ensures table { duties self.new ≡ duties self.old }
+        ensures queue { self.new.queue ≡ self.old.queue }
     {
         self.work.done(row)
     }

@@ -12,7 +12,7 @@ use Rattle.model.specs.declared.refusals.Refusal.{Refusal}
 use Rattle.list.specs.Held.{held, Becomes, Inserts}
 use Rattle.list.specs.Order.{same_rank}
 use Rattle.list.specs.declared.ordered.OrderedList.{OrderedList}
-use Rattle.queue.specs.Lines.{errands, line_meaning, place_of, first_number, spent, without, LinesUp}
+use Rattle.queue.specs.Lines.{errands, line_meaning, place_of, first_number, spent, without, KeptIfRefused, LinesUp}
 use Rattle.queue.specs.Ranks.{ranks}
 use Rattle.queue.specs.Slots.{with_units}
 use Rattle.queue.specs.declared.slots.Slot.{Slot}
@@ -185,3 +185,8 @@ take_missing l m n why at done number =
     let same : held m ≡ held l = done.holds ∙ without_is n (held l) ∙ without_none n (held l) none in
     let stay = done.places_stay in
     (none, number, cc)
+
+-- A put that is refused leaves every slot as it was.
+pub kept_put : {X : Type 0} (l m : OrderedList Slot) (s : Slot) (r : Result X Refusal) → LinesUp l s r m → KeptIfRefused l r m
+kept_put l m s (Ok x) up = tt
+kept_put l m s (Err why) up = up

@@ -47,6 +47,15 @@ abbrev pub without : ℕ → List Slot → List Slot
 without n [] = []
 without n (s ∷ ss) = cond (s.errand.number == n) ss (s ∷ without n ss)
 
+-- What is refused leaves the line, and every slot of it, as it was; so does a spend that finds nothing.
+abbrev pub KeptIfRefused : {X : Type 0} → OrderedList Slot → Result X Refusal → OrderedList Slot → Type 0
+KeptIfRefused l (Ok x) m = Unit {0}
+KeptIfRefused l (Err why) m = m ≡ l
+
+abbrev pub KeptIfNone : OrderedList Slot → Option ℕ → OrderedList Slot → Type 0
+KeptIfNone l None m = m ≡ l
+KeptIfNone l (Some n) m = Unit {0}
+
 -- What a line means is sound if no number is in it twice.
 first_named : (es : List Errand) → names_right es (first_number es) ≡ true
 first_named [] = refl

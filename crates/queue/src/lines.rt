@@ -2,7 +2,7 @@ ghost use Rattle.std.specs.Prelude.{◌≡◌, true, take};
 ghost use Rattle.model.specs.Queues.{errand_within, distinct, Put, Spend, Take};
 ghost use Rattle.list.specs.Held.{held};
 ghost use Rattle.list.specs.Order.{sorted};
-ghost use Rattle.queue.specs.Lines.{errands, line_meaning, place_of, first_number, spent, without, LinesUp};
+ghost use Rattle.queue.specs.Lines.{errands, line_meaning, place_of, first_number, spent, without, KeptIfNone, KeptIfRefused, LinesUp};
 ghost use Rattle.queue.specs.Ranks.{ranks};
 
 use super::slots::Slot;
@@ -56,6 +56,7 @@ pub(crate) fn put_in(line: &mut OrderedList<'_, Slot>, slot: Slot) -> Result<(),
 pub(crate) fn spend_first(line: &mut OrderedList<'_, Slot>) -> Option<u32>
     ensures spends { distinct (errands (held line.old)) ≡ true → Spend (line_meaning line.old) result (line_meaning line.new) }
     ensures lines { held line.new ≡ spent (held line.old) }
+    ensures kept { KeptIfNone line.old result line.new }
     ensures order { sorted ranks (held line.old) ≡ true → sorted ranks (held line.new) ≡ true }
 {
     let slot = line.get(0)?;
@@ -72,6 +73,7 @@ pub(crate) fn spend_first(line: &mut OrderedList<'_, Slot>) -> Option<u32>
 pub(crate) fn take_out(line: &mut OrderedList<'_, Slot>, number: u32) -> Result<u32, Refusal>
     ensures takes { distinct (errands (held line.old)) ≡ true → Take (line_meaning line.old) number result (line_meaning line.new) }
     ensures lines { held line.new ≡ without number (held line.old) }
+    ensures kept { KeptIfRefused line.old result line.new }
     ensures order { sorted ranks (held line.old) ≡ true → sorted ranks (held line.new) ≡ true }
 {
     let place = place_of(line.entries(), number);

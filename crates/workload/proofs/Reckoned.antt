@@ -31,10 +31,14 @@ idle_at_most f rising (suc n) =
 module _ (clock : ℕ) (table : List Duty) (rows : List Row) (streams : List Stream)
     (ok : admitted table ≡ true) (keeps : kept clock table rows ≡ true)
     (made : take (length table) streams ≡ streams_of clock table rows) where
+  -- However many of the first streams are taken, they are those of the first rows.
+  pub first_streams : (n : ℕ) → n ≤ length table → take n streams ≡ take n (streams_of clock table rows)
+  first_streams n le = sym (take-take n (length table) streams le) ∙ ap (take n) made
+
   pub cut_streams : (i : ℕ) → i < length table → take (i + 1 - 0) streams ≡ take (suc i) (streams_of clock table rows)
   cut_streams i lt =
       let one : i + 1 - 0 ≡ suc i = omega arith in
-      rw one (sym (take-take (suc i) (length table) streams lt) ∙ ap (take (suc i)) made)
+      rw one (first_streams (suc i) lt)
 
   pub idle_is_slack : (i : ℕ) → i < length table
       → idle_ticks (all_ask (take (i + 1 - 0) streams)) (window_end (clock + 1) (duty_at table i) (row_at rows i) - clock)

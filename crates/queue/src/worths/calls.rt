@@ -1,7 +1,7 @@
-ghost use Rattle.std.specs.Prelude.{◌≡◌, min, List, [], length};
+ghost use Rattle.std.specs.Prelude.{◌≡◌, min, List, [], length, take};
 ghost use Rattle.model.specs.Queues.{Put, Spend, Take};
 ghost use Rattle.list.specs.Held.{held, places};
-ghost use Rattle.queue.specs.Lines.{line_meaning, line_sound};
+ghost use Rattle.queue.specs.Lines.{KeptIfNone, KeptIfRefused, line_meaning, line_sound};
 ghost use Rattle.queue.specs.Worths.{best, each_to, gone, after_spend, Stands, Joins};
 ghost use Rattle.queue.specs.declared.slots.Slot.{Slot as Place};
 
@@ -17,6 +17,7 @@ impl<'a> ByWorth<'a> {
     pub fn new(slots: &'a mut [Slot]) -> ByWorth<'a>
         ensures empty { held result.line ≡ [] }
         ensures size { places result.line ≡ min (length slots.old) 1024 }
+        ensures slots { result.line.slots.now ≡ take 1024 slots.old }
     {
         ByWorth {
             line: OrderedList::new(own_slots(slots)),
@@ -33,6 +34,7 @@ impl<'a> Queue for ByWorth<'a> {
     fn put(&mut self, errand: Errand) -> Result<(), Refusal>
         ensures means { Put (line_meaning self.old.line) errand result (line_meaning self.new.line) }
         ensures joins { (came : List Place) → Stands came (held self.old.line) → Joins came errand result (held self.new.line) }
+        ensures kept { KeptIfRefused self.old.line result self.new.line }
     {
         let slot = Slot::rated(errand)?;
         put_in(&mut self.line, slot)
@@ -49,6 +51,7 @@ impl<'a> Queue for ByWorth<'a> {
     fn spend(&mut self) -> Option<u32>
         ensures means { Spend (line_meaning self.old.line) result (line_meaning self.new.line) }
         ensures serves { (came : List Place) → Stands came (held self.old.line) → Stands (after_spend result came) (held self.new.line) }
+        ensures kept { KeptIfNone self.old.line result self.new.line }
     {
         spend_first(&mut self.line)
     }
@@ -56,6 +59,7 @@ impl<'a> Queue for ByWorth<'a> {
     fn take(&mut self, number: u32) -> Result<u32, Refusal>
         ensures means { Take (line_meaning self.old.line) number result (line_meaning self.new.line) }
         ensures leaves { (came : List Place) → Stands came (held self.old.line) → Stands (each_to (gone number) came) (held self.new.line) }
+        ensures kept { KeptIfRefused self.old.line result self.new.line }
     {
         take_out(&mut self.line, number)
     }

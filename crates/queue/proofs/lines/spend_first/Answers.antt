@@ -1,6 +1,6 @@
-use Rattle.std.proofs.Common.{◌≡◌, ◌-◌, ◌<◌, ◌≤◌, true, cond, set, Some, sym, ap, ◌∙◌, subst, arith}
+use Rattle.std.proofs.Common.{◌≡◌, ◌-◌, ◌<◌, ◌≤◌, true, cond, set, Some, sym, refl, ap, ◌∙◌, subst, arith}
 use Rattle.list.specs.Held.{held, Becomes, fits}
-use Rattle.queue.specs.Lines.{line_meaning}
+use Rattle.queue.specs.Lines.{line_meaning, KeptIfNone}
 use Rattle.queue.specs.Ranks.{ranks}
 use Rattle.queue.specs.Slots.{with_units}
 use Rattle.model.specs.Queues.{Spend}
@@ -15,6 +15,7 @@ returns-in_err-slot c =
       spends = λ _.
           subst (λ o. Spend (line_meaning l) o (line_meaning l)) (sym c.from_residual.ensures) (spend_none l none);
       lines = spent_none l none;
+      kept = subst (λ o. KeptIfNone l o l) (sym c.from_residual.ensures) refl;
       order = λ h. h;
     }
 
@@ -31,6 +32,7 @@ returns-then-errand-le1 c =
           subst (λ n. Spend (line_meaning l) (Some n) (line_meaning m)) number
           (spend_last l m s at last c.remove.ensures.becomes once);
       lines = spent_last l m s at last c.remove.ensures.becomes;
+      kept = tt;
       order = c.remove.ensures.order;
     }
 
@@ -54,5 +56,6 @@ returns-else-errand-le1 c =
     record {
       spends = λ once. subst (λ n. Spend (line_meaning l) (Some n) (line_meaning m)) number (spend_unit l m s at more done once);
       lines = spent_unit l m s at more done;
+      kept = tt;
       order = c.replace.ensures.order;
     }

@@ -20,6 +20,7 @@ returns-in-Some c =
           subst (λ e. Take (line_meaning l) n (Ok e.units) (line_meaning m)) (sym c.errand.ensures)
           (take_found l m n c.in-Some.slot (sym c.in-Some.is ∙ c.remove.ensures.value ∙ ap (slice_get (held l)) at) done once);
       lines = done.holds ∙ without_is n (held l);
+      kept = tt;
       order = c.remove.ensures.order;
     }
 
@@ -35,5 +36,6 @@ returns-in-None c =
       takes = λ once.
           take_missing l m n NotWaiting (sym c.in-None.is ∙ c.remove.ensures.value ∙ ap (slice_get (held l)) at) done refl;
       lines = done.holds ∙ without_is n (held l);
+      kept = c.remove.ensures.missing c.in-None.is;
       order = c.remove.ensures.order;
     }

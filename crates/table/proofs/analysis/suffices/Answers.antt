@@ -4,8 +4,7 @@ use Rattle.table.proofs.Limits.{within_take}
 use Rattle.table.proofs.analysis.suffices.Goals as goal
 
 pub busy-requires : goal.busy-requires
-busy-requires c =
-    (within_take (c.args.row + 1 - 0) c.args.table.now c.requires.0, (simp length-take (omega arith), omega arith))
+busy-requires c = (within_take _ c.args.table.now c.requires.0, (simp length-take (omega arith), omega arith))
 
 pub returns : goal.returns
 returns c =

@@ -1,4 +1,4 @@
-use Rattle.std.proofs.Common.{◌≡◌, ℕ, suc, ◌+◌, ◌-◌, ◌≤◌, min, length, take, ap, ◌∙◌, arith, rules}
+use Rattle.std.proofs.Common.{◌≡◌, ℕ, ◌+◌, ◌-◌, ◌≤◌, min, length, take, ap, ◌∙◌, arith, rules}
 use Rattle.std.proofs.lemmas.List.{length-take}
 use Rattle.model.proofs.Admitted.{admitted_says}
 use Rattle.model.proofs.Keeping.{kept_gives}
@@ -6,7 +6,7 @@ use Rattle.model.specs.Idle.{idle_ticks}
 use Rattle.model.specs.Reckoning.{row_slack}
 use Rattle.workload.proofs.Ahead.{row_ahead, streams_tame}
 use Rattle.workload.proofs.Minimum.{least_of, least_of_more, least_of_rows}
-use Rattle.workload.proofs.Reckoned.{cut_streams, idle_at_most, idle_is_slack}
+use Rattle.workload.proofs.Reckoned.{first_streams, idle_at_most, idle_is_slack}
 use Rattle.workload.proofs.Tame.{all_ask_rising, tame_take}
 use Rattle.workload.specs.Streams.{all_ask, all_tame, streams_of}
 use Rattle.workload.proofs.slack.table_slack.Goals as goal
@@ -30,9 +30,9 @@ pub idle_ticks-requires : goal.idle_ticks-requires
 idle_ticks-requires c =
     let table = c.args.duties.now in
     let same = (kept_gives c.args.clock table c.args.rows.now c.requires.1).numbers.same_length in
-    let cut = cut_streams c.args.clock table c.args.rows.now c.streams-streams.result c.requires.0 c.requires.1 c.streams-streams.ensures c.loop-i.i (omega arith) in
     let tame = streams_tame c.args.clock table c.args.rows.now same (row_ahead c.args.clock table c.args.rows.now c.requires.0 c.requires.1) in (
-      ap all_tame cut ∙ tame_take (suc c.loop-i.i) (streams_of c.args.clock table c.args.rows.now) tame,
+      ap all_tame (first_streams c.args.clock table c.args.rows.now c.streams-streams.result c.requires.0 c.requires.1 c.streams-streams.ensures _ (omega arith))
+          ∙ tame_take _ (streams_of c.args.clock table c.args.rows.now) tame,
       (simp length-take (omega (arith, (admitted_says table c.requires.0).few)), c.window-end.ensures.bound),
     )
 

@@ -8,4 +8,5 @@ returns c =
     record {
       empty = ap errands c.new.ensures.holds;
       size = omega (arith, ap length own, length-take 1024 c.args.slots.now);
+      slots = own;
     }

@@ -1,4 +1,5 @@
-use Rattle.std.proofs.Common.{◌≡◌, ℕ, ◌+◌, ◌-◌, ◌<◌, ◌≤◌, true, List, length, take, None, Option, sym, ap, ◌∙◌, arith}
+use Rattle.std.proofs.Common.{◌≡◌, ℕ, ◌+◌, ◌-◌, ◌<◌, ◌≤◌, true, List, length, take, None, Option, sym, ap, ◌∙◌, arith, length-take}
+use Rattle.std.proofs.lemmas.List.{take-take}
 use Rattle.std.specs.List.{insert}
 use Rattle.std.proofs.lemmas.List.Edits.{length-insert}
 use Rattle.model.specs.Table.{add_refusal, admitted, all_within, first_late, unschedulable, within_limits}
@@ -6,6 +7,7 @@ use Rattle.model.specs.declared.duties.Duty.{Duty}
 use Rattle.table.specs.declared.settings.Setting.{Setting}
 use Rattle.model.proofs.Admitted.{admitted_says, says_admitted}
 use Rattle.table.proofs.Admission.{accepted_leaves, by_analysis, refused_full, refused_leaves, refused_limits, refused_place, within_inserted}
+use Rattle.table.proofs.Limits.{within_take}
 use Rattle.table.specs.Settings.{table_of}
 use Rattle.table.proofs.settings.Setting.add.Goals as goal
 
@@ -45,6 +47,12 @@ module _ (s : Setting) (duties : List Duty) (place : ℕ) (d : Duty)
       let inside : place ≤ length (table_of s) = omega (arith, s.counts) in
       omega (arith, length-insert (table_of s) place d inside, s.counts)
 
+  -- However many of its first rows are analysed, they are within their limits.
+  first_within : (n : ℕ) → n ≤ s.len + 1 → all_within (take n duties) ≡ true
+  first_within n le =
+      ap all_within (sym (take-take n (s.len + 1) duties le))
+      ∙ within_take n (take (s.len + 1) duties) (ap all_within made ∙ new_within)
+
   -- The analysis decides.
   analysed : (o : Option ℕ) → o ≡ first_late (take (s.len + 1 - 0) duties) → add_refusal (table_of s) place d ≡ unschedulable o
   analysed o e =
@@ -61,10 +69,8 @@ pub first_late-requires : goal.first_late-requires
 first_late-requires c =
     let s = c.args.self.now in
     let good = c.if-not-within_limits.ensures in
-    let made = c.with_duty-duties.ensures in (
-      ap all_within (cut s _ _ _ (omega arith) good (omega arith) made) ∙ new_within s _ _ _ (omega arith) good (omega arith) made,
-      omega (arith, ap length (cut s _ _ _ (omega arith) good (omega arith) made), new_length s _ _ _ (omega arith) good (omega arith) made),
-    )
+    let made = c.with_duty-duties.ensures in
+    (first_within s _ _ _ (omega arith) good (omega arith) made _ (omega arith), simp length-take (omega arith))
 
 pub returns-in-Some : goal.returns-in-Some
 returns-in-Some c =

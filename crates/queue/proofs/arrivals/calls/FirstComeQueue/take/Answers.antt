@@ -9,4 +9,5 @@ returns c =
     record {
       means = c.take_out.ensures.takes c.args.self.now.once;
       leaves = ap errands c.take_out.ensures.lines ∙ errands_leaving c.args.number (held c.args.self.now.line);
+      kept = c.take_out.ensures.kept;
     }

@@ -8,4 +8,5 @@ returns c =
     record {
       means = means;
       serves = stands_spend c.args.self.now.line c.spend_first.new.line c.spend_first.result means once c.spend_first.ensures.lines;
+      kept = c.spend_first.ensures.kept;
     }

@@ -7,4 +7,5 @@ returns c =
     record {
       means = c.take_out.ensures.takes once;
       leaves = stands_take c.args.self.now.line c.take_out.new.line c.args.number once c.take_out.ensures.lines;
+      kept = c.take_out.ensures.kept;
     }
