@@ -13,7 +13,7 @@ import sys
 import tempfile
 
 ROOT = os.path.abspath(os.path.join(os.path.dirname(__file__), ".."))
-START = "    let mut dispatcher = Dispatcher::start(setting, queue);\n"
+START = "    let mut dispatcher = Dispatcher::start(setting, FirstCome::new(&mut slots));\n"
 MISUSES = {
     "a duty added after the start": (
         "    let mut setting = setting;\n" + START + "    let _ = setting.add(0, duty(1, 4, 4));\n", "borrow-e0382"),

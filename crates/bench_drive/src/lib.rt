@@ -6,40 +6,38 @@ use model::Duty;
 use table::Setting;
 use workload::Workload;
 
-// Two bytes, the lower first.
-fn number(bytes: &[u8], at: usize) -> u32 {
-    match (bytes.get(at), bytes.get(at.saturating_add(1))) {
-        (Some(low), Some(high)) => u32::from(*low) + 256 * u32::from(*high),
-        _ => 0,
-    }
+// A number of two bytes, the lower first.
+fn number(low: u8, high: u8) -> u32 {
+    u32::from(u16::from_le_bytes([low, high]))
 }
 
 // The table whose rows lie in the bytes, six to a row: cost, deadline, separation.
 fn table_in(bytes: &[u8]) -> Setting {
     let mut setting = Setting::new();
-    for row in 0..bytes.len() / 6 {
-        let at = row * 6;
-        let duty = Duty {
-            cost: number(bytes, at),
-            deadline: number(bytes, at + 2),
-            separation: number(bytes, at + 4),
-        };
-        let _ = setting.add(setting.rows().len() as u32, duty);
+    for row in bytes.chunks_exact(6) {
+        if let [a, b, c, d, e, f] = *row {
+            let duty = Duty {
+                cost: number(a, b),
+                deadline: number(c, d),
+                separation: number(e, f),
+            };
+            let _ = setting.add(setting.rows().len() as u32, duty);
+        }
     }
     setting
 }
 
-// Releases every row that may be released, and where `finish` is 1 ends its job at once.
-fn release_all(work: &mut Workload, rows: u32, finish: u32) {
+// Releases every row that may be released, and ends its job at once if it is to finish.
+fn release_all(work: &mut Workload, rows: u32, finishes: bool) {
     for row in 0..rows {
-        if work.release(row).is_ok() && finish == 1 {
+        if work.release(row).is_ok() && finishes {
             let _ = work.done(row);
         }
     }
 }
 
 // Drives the table for so many ticks, with every job released as soon as it may be, and answers the sum of the
-// slacks before them.
+// slacks before them. Where `finish` is 1, each job is ended at once; C has it as a number.
 #[unsafe(no_mangle)]
 pub extern "C" fn bench_drive(bytes: &[u8], ticks: u32, finish: u32) -> u64 {
     let setting = table_in(bytes);
@@ -47,7 +45,7 @@ pub extern "C" fn bench_drive(bytes: &[u8], ticks: u32, finish: u32) -> u64 {
     let mut work = Workload::start(setting);
     let mut sum: u64 = 0;
     for _ in 0..ticks {
-        release_all(&mut work, rows, finish);
+        release_all(&mut work, rows, finish == 1);
         if let Ok((slack, _)) = work.tick(false) {
             sum = sum.wrapping_add(u64::from(slack));
         }

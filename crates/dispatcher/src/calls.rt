@@ -1,9 +1,10 @@
-// The calls of a running dispatcher. Each answers and leaves what the machine's step says.
+// The calls of a running dispatcher. Each answers and leaves what the machine's step says. That the table stays is a clause of
+// each: it is a fact of two states, and so no invariant of one.
 ghost use Rattle.std.specs.Prelude.{◌≡◌};
-ghost use Rattle.model.specs.Machine.{Requested, RowCalled, Step, Ticks, Withdraws, fresh, plain_answer, slack_of, waits};
+ghost use Rattle.model.specs.Machine.{Requested, RowCalled, Step, Ticks, Withdraws, fresh, slack_of, waits};
 ghost use Rattle.model.specs.declared.rows.RowCall.TheVariants.{Release, Done};
 ghost use Rattle.table.specs.Settings.{table_of};
-ghost use Rattle.dispatcher.specs.Views.{duties, view};
+ghost use Rattle.dispatcher.specs.Views.{answer_of, duties, view};
 
 use crate::dispatchers::Dispatcher;
 use model::{Answer, Call, Errand, Refusal, Who};
@@ -92,29 +93,34 @@ impl<Q: Queue> Dispatcher<Q> {
         ensures step { Step (duties self.old) (view Q.meaning self.old) call result (view Q.meaning self.new) }
         ensures table { duties self.new ≡ duties self.old }
     {
-        match call {
-            Call::Release(row) => plain(self.release(row)),
-            Call::Done(row) => plain(self.done(row)),
-            Call::Request(errand) => plain(self.request(errand)),
-            Call::Withdraw(number) => match self.withdraw(number) {
-                Ok(units) => Answer::Withdrawn(units),
-                Err(why) => Answer::Refused(why),
-            },
-            Call::Slack => Answer::Slack(self.slack()),
-            Call::Tick => match self.tick() {
-                Ok((slack, who)) => Answer::Ticked(slack, who),
-                Err(why) => Answer::Refused(why),
-            },
-        }
+        self.accept(call).unwrap_or_else(Answer::Refused)
     }
-}
 
-// The answer to a call that has nothing else to tell.
-fn plain(res: Result<(), Refusal>) -> Answer
-    ensures { result ≡ plain_answer res }
-{
-    match res {
-        Ok(()) => Answer::Accepted,
-        Err(why) => Answer::Refused(why),
+    // The answer to a call, unless it is refused.
+    fn accept(&mut self, call: Call) -> Result<Answer, Refusal>
+        ensures step { Step (duties self.old) (view Q.meaning self.old) call (answer_of result) (view Q.meaning self.new) }
+        ensures table { duties self.new ≡ duties self.old }
+    {
+        let answer = match call {
+            Call::Release(row) => {
+                self.release(row)?;
+                Answer::Accepted
+            }
+            Call::Done(row) => {
+                self.done(row)?;
+                Answer::Accepted
+            }
+            Call::Request(errand) => {
+                self.request(errand)?;
+                Answer::Accepted
+            }
+            Call::Withdraw(number) => Answer::Withdrawn(self.withdraw(number)?),
+            Call::Slack => Answer::Slack(self.slack()),
+            Call::Tick => {
+                let (slack, who) = self.tick()?;
+                Answer::Ticked(slack, who)
+            }
+        };
+        Ok(answer)
     }
 }

@@ -1,3 +1,5 @@
+ghost use Rattle.std.specs.Prelude.{◌≡◌};
+
 use model::{Answer, Call};
 
 // A call of a script, and beside it what it answered once the script has been run.
@@ -5,4 +7,17 @@ use model::{Answer, Call};
 pub struct Entry {
     pub call: Call,
     pub answer: Answer,
+}
+
+// A call that is yet to be made, with room for its answer, which is written over when the script is run. No `Option`, which every
+// reader of a script that was run would have to open.
+impl From<Call> for Entry {
+    ghost from_gives = { λ call entry. entry.call ≡ call };
+
+    fn from(call: Call) -> Entry {
+        Entry {
+            call,
+            answer: Answer::Accepted,
+        }
+    }
 }

@@ -20,9 +20,8 @@ pub fn run<Q: Queue>(setting: Setting, queue: Q, script: &mut [Entry]) -> Dispat
     ensures table { duties result ≡ table_of setting }
 {
     let mut dispatcher = Dispatcher::start(setting, queue);
-    for i in 0..script.len() {
-        let call = script[i].call;
-        script[i].answer = dispatcher.carry_out(call);
+    for entry in script.iter_mut() {
+        entry.answer = dispatcher.carry_out(entry.call);
     }
     dispatcher
 }

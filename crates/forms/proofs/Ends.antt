@@ -1,19 +1,11 @@
 -- Where the first line of a text ends, and what is left behind it.
-use Rattle.std.proofs.Common.{◌≡◌, ℕ, suc, ◌+◌, ◌-◌, ◌<◌, ◌≤◌, min, Bool, true, false, cond, eqb, ltb, List, [], ◌∷◌, length, get_or, take, drop, sym, ap, ◌∙◌, ⊎_elim, arith, length-drop}
-use Rattle.std.proofs.lemmas.List.{at_drop_more, drop_all, drop-drop, drop_more}
+use Rattle.std.proofs.Common.{◌≡◌, ℕ, suc, ◌+◌, ◌-◌, ◌<◌, ◌≤◌, min, Bool, true, false, eqb, ltb, List, [], ◌∷◌, length, get_or, take, drop, sym, ap, ◌∙◌, ⊎_elim, arith, length-drop}
+use Rattle.std.proofs.lemmas.List.{drop_all, drop-drop, drop_more, take_all}
 use Rattle.std.proofs.lemmas.Bool.{cases_Bool, cases_lt}
 use Rattle.std.proofs.lemmas.Bool.Decides.{nat_tests}
 use Rattle.forms.specs.Lines.{Line, begun_by, line_length, lines, next_byte}
 use Rattle.forms.specs.declared.faults.Place.{Place}
-
--- One byte on.
-pub line_length_step : (text : List ℕ) (i : ℕ) → i < length text
-    → line_length (drop i text) ≡ cond (eqb (get_or text i 0) 10) 0 (suc (line_length (drop (i + 1) text)))
-line_length_step text i h = at_drop_more line_length text i 0 h
-
-pub line_length_within : (bs : List ℕ) → line_length bs ≤ length bs
-line_length_within [] = omega arith
-line_length_within (b ∷ bs) = let rest = line_length_within bs in grind (arith, nat_tests)
+use Rattle.forms.proofs.Firsts.{line_length_within}
 
 -- The first line of a text, and the place of the next one.
 abbrev pub first_line : Place → List ℕ → Line
@@ -64,22 +56,21 @@ behind text start n h =
     (λ le. drop_all (start + suc n) text (omega arith) ∙ sym (drop_all (min (length text) (start + n + 1)) text (omega arith)))
     (cases_lt (start + n) (length text))
 
--- The lines from a place in a text on: the one that begins there and ends at `end`, and those behind it.
-pub lines_from : (text : List ℕ) (p : Place) (end next : ℕ)
-    → p.byte < length text → end ≡ p.byte + line_length (drop p.byte text) → next ≡ min (length text) (end + 1)
+-- The lines from a place in a text on: the one that begins there, of n bytes, and those behind it.
+pub lines_from : (text : List ℕ) (p : Place) (n next : ℕ)
+    → p.byte < length text
+    → n ≡ line_length (take (length text - p.byte) (drop p.byte text)) → next ≡ min (length text) (p.byte + n + 1)
     → lines p (drop p.byte text)
-    ≡ record { bytes = take (end - p.byte) (drop p.byte text); place = p; ended = ltb end (length text) }
+    ≡ record { bytes = take n (take (length text - p.byte) (drop p.byte text)); place = p; ended = ltb n (length (take (length text - p.byte) (drop p.byte text))) }
     ∷ lines (record { line = p.line + 1; byte = next }) (drop next text)
-lines_from text p end next h e then =
+lines_from text p n next h e then =
     let rest = drop p.byte text in
-    let n = line_length rest in
     let size : length rest ≡ length text - p.byte = length-drop p.byte text in
-    let fits : n ≤ length rest = line_length_within rest in
-    let cut : n ≡ end - p.byte = omega arith in
-    let ends : ltb n (length rest) ≡ ltb end (length text) = grind (arith, nat_tests) in
-    let moved : p.byte + min (length rest) (suc n) ≡ next = omega arith in
-    let same_next : min (length text) (p.byte + n + 1) ≡ next = omega arith in
-    let left : drop (suc n) rest ≡ drop next text = behind text p.byte n (omega arith) ∙ ap (λ k. drop k text) same_next in
-    let split : Split p rest =
-    rw (drop_more text p.byte 0 h) (lines_split p (get_or text p.byte 0) (drop (p.byte + 1) text)) in
-    split ∙ cc
+    let whole : take (length text - p.byte) rest ≡ rest = take_all (length text - p.byte) rest (omega arith) in
+    let ends : n ≡ line_length rest = rw whole at e in
+    let fits : line_length rest ≤ length rest = line_length_within rest in
+    let moved : p.byte + min (length rest) (suc (line_length rest)) ≡ next = omega arith in
+    let same_next : min (length text) (p.byte + line_length rest + 1) ≡ next = omega arith in
+    let left : drop (suc (line_length rest)) rest ≡ drop next text = behind text p.byte (line_length rest) (omega arith) ∙ ap (λ k. drop k text) same_next in
+    let split : Split p rest = rw (drop_more text p.byte 0 h) (lines_split p (get_or text p.byte 0) (drop (p.byte + 1) text)) in
+    rw whole (split ∙ cc)

@@ -128,11 +128,11 @@ form_passes (bracket w ws inner lt l all reads) is_form fits =
     ∙ letters_stay 1 ws (inner ++ (41 ∷ [])) all
     ∙ reads_closed reads 1 (41 ∷ []) (omega arith) (omega arith))
     (step_spelled 40 w bytes l ∙ letters_spelled w ws (inner ++ (41 ∷ [])) true l all (reads_spelled reads [] true refl))
-form_passes (word w ws l all) is_form fits = absurd (let z : ◌≡◌ {A = ℕ} 0 1 = cc in omega arith)
-form_passes (number d ds l all) is_form fits = absurd (let z : ◌≡◌ {A = ℕ} 0 1 = cc in omega arith)
-form_passes (nested reads) is_form fits = absurd (let z : ◌≡◌ {A = ℕ} 0 1 = cc in omega arith)
-form_passes none is_form fits = absurd (let z : ◌≡◌ {A = ℕ} 0 1 = cc in omega arith)
-form_passes (more i inner first later) is_form fits = absurd (let z : ◌≡◌ {A = ℕ} 0 1 = cc in omega arith)
+form_passes (word w ws l all) is_form fits = cc
+form_passes (number d ds l all) is_form fits = cc
+form_passes (nested reads) is_form fits = cc
+form_passes none is_form fits = cc
+form_passes (more i inner first later) is_form fits = cc
 
 -- The other way: what is left of a line that closes d brackets, each behind items.
 data Tail : ℕ → List ℕ → Type 0 where
@@ -195,7 +195,7 @@ space_stays depth b bs s = grind (arith, nat_tests)
 
 empty_none : (bs : List ℕ) → empty bs ≡ true → bs ≡ []
 empty_none [] e = refl
-empty_none (b ∷ bs) e = absurd (let z : ◌≡◌ {A = ℕ} 0 1 = cc in omega arith)
+empty_none (b ∷ bs) e = cc
 
 -- The bytes behind go on, at any depth at which they close.
 abbrev Next : List ℕ → Type 0
@@ -307,7 +307,7 @@ module _ (b : ℕ) (bs : List ℕ) (d : ℕ) (room : d < 16) (closes : closed (s
       }
 
 goes_on : (bs : List ℕ) → Next bs
-goes_on [] d room closes = absurd (let z : ◌≡◌ {A = ℕ} 0 1 = cc in omega arith)
+goes_on [] d room closes = cc
 goes_on (b ∷ bs) d room closes = one_more b bs d room closes (goes_on bs)
 
 -- A word, items and the last closing bracket.
@@ -317,7 +317,7 @@ last_bracket w ws l all (level inner rest reads done) = bracket w ws inner (omeg
 
 -- What passes is a form by the grammar.
 pub passes_form : (bs : List ℕ) → (bracketed bs && spelled_out bs) ≡ true → Reads form 16 bs
-passes_form [] passed = absurd (let z : ◌≡◌ {A = ℕ} 0 1 = cc in omega arith)
+passes_form [] passed = cc
 passes_form (b ∷ bs) passed =
     let both = and_parts (opening b && closed 1 bs) (spelled b bs) passed in
     let open-closed = and_parts (opening b) (closed 1 bs) both.0 in

@@ -1,16 +1,14 @@
 -- Where the first item of a form ends, and what is left behind it.
-use Rattle.std.proofs.Common.{◌≡◌, ℕ, suc, ◌+◌, ◌-◌, ◌<◌, Bool, true, false, cond, ◌&&◌, eqb, ltb, List, [], ◌∷◌, length, get_or, take, drop, refl, ap, ◌∙◌, ⊎_elim, arith}
-use Rattle.std.proofs.lemmas.List.{at_drop_more}
+use Rattle.std.proofs.Common.{◌≡◌, ℕ, suc, Bool, true, false, cond, ◌&&◌, eqb, ltb, List, [], ◌∷◌, length, take, drop, is_some, Some, None, Option, add-one, ◌+◌, refl, ap, ◌∙◌, ⊎_elim, arith}
+use Rattle.std.specs.Borrow.{Bor}
+use Rattle.std.specs.List.{list_all}
+use Rattle.std.specs.Slice.{IsGetRangeResult}
+use Rattle.std.proofs.lemmas.List.{take_rest}
 use Rattle.std.proofs.lemmas.Bool.{cases_Bool}
 use Rattle.std.proofs.lemmas.Bool.Decides.{nat_tests}
 use Rattle.forms.specs.Forms.{space}
-use Rattle.forms.specs.Items.{item_begun_by, item_length, items, open_after}
-
--- One byte on.
-pub item_length_step : (bs : List ℕ) (depth i : ℕ) → i < length bs
-    → item_length depth (drop i bs)
-    ≡ cond (space (get_or bs i 0) && eqb depth 0) 0 (suc (item_length (open_after depth (get_or bs i 0)) (drop (i + 1) bs)))
-item_length_step bs depth i h = at_drop_more (item_length depth) bs i 0 h
+use Rattle.forms.specs.Items.{item_begun_by, item_length, items, items_of, open_after}
+use Rattle.forms.specs.Sayings.{all_calls, call}
 
 -- What is left behind the first n bytes and the space after them.
 abbrev pub left_behind : ℕ → List ℕ → List (List ℕ)
@@ -38,11 +36,25 @@ items_split depth [] = refl
 items_split depth (b ∷ bs) =
     ⊎_elim (split_here depth b bs) (λ f. split_later depth b bs f (items_split (open_after depth b) bs)) (cases_Bool (space b && eqb depth 0))
 
--- The same for an item that was cut off at n.
-pub items_cut : (bs : List ℕ) (n : ℕ) (later : List (List ℕ))
-    → n ≡ item_length 0 bs → later ≡ left_behind n bs → items 0 bs ≡ take (n - 0) bs ∷ later
-items_cut bs n later ends is-left =
-    let cut : n - 0 ≡ item_length 0 bs = omega arith in
+-- What stands behind the first n bytes and the space after them, where there is such a part.
+behind_is : (bs : List ℕ) (n : ℕ) (r : Option (Bor (List ℕ))) → IsGetRangeResult bs (n + 1) (length bs) r → items_of r ≡ left_behind n bs
+behind_is bs n None got =
+    let past : ltb n (length bs) ≡ false = ⊎_elim (λ lt. grind (arith, nat_tests)) (λ lt. absurd (omega arith)) got.0 in
+    rw past
+behind_is bs n (Some part) got =
+    let within : ltb n (length bs) ≡ true = grind (arith, nat_tests) in
+    let left : part.now ≡ drop (suc n) bs = got.0.2 ∙ take_rest bs (n + 1) ∙ ap (λ k. drop k bs) (add-one n) in
+    rw (within, left)
+
+-- The items of bytes whose first item was cut off at n.
+pub items_cut : (bs : List ℕ) (n : ℕ) (later : Option (Bor (List ℕ)))
+    → n ≡ item_length 0 bs → IsGetRangeResult bs (n + 1) (length bs) later → items 0 bs ≡ take n bs ∷ items_of later
+items_cut bs n later ends got =
     let split = items_split 0 bs in
-    let behind = is-left ∙ ap (λ k. left_behind k bs) ends in
+    let behind = behind_is bs n later got ∙ ap (λ k. left_behind k bs) ends in
     cc
+
+-- Every item is a call.
+pub all_called : (is : List (List ℕ)) → list_all (λ i. is_some (call i)) is ≡ all_calls is
+all_called [] = refl
+all_called (i ∷ is) = ap (λ (rest : Bool). is_some (call i) && rest) (all_called is)

@@ -1,8 +1,9 @@
 pub mod Apart
-pub mod Cuts
 pub mod Ends
+pub mod Firsts
 pub mod Grammatical
 pub mod Itemized
 pub mod Numbered
-pub mod Scans
+pub mod Pairs
+pub mod Printed
 pub mod Valued

@@ -1,5 +1,5 @@
 -- The items of a form, and the numbers among them.
-use Rattle.std.specs.Prelude.{◌≡◌, ℕ, zero, suc, ◌+◌, ◌-◌, ◌*◌, min, Bool, true, cond, ◌&&◌, List, [], ◌∷◌, length, take, drop, Some, None, Option, ◌==◌, nat_le, nat_lt, slice_index}
+use Rattle.std.specs.Prelude.{ℕ, zero, suc, ◌+◌, ◌-◌, ◌*◌, min, Bool, true, cond, ◌&&◌, List, [], ◌∷◌, length, take, drop, Some, None, Option, ◌==◌, nat_le, nat_lt, slice_index}
 use Rattle.std.specs.Borrow.{Bor}
 use Rattle.std.specs.Option.{option_map}
 use Rattle.forms.specs.declared.items.Items.{Items}
@@ -36,11 +36,6 @@ items_of (Some part) = items 0 part.now
 
 abbrev pub items_left : Items → List (List ℕ)
 items_left r = items_of r.rest
-
--- The next item, if there is one.
-abbrev pub NextItem : List (List ℕ) → Option (Bor (List ℕ)) → List (List ℕ) → Type 0
-NextItem is None later = (is ≡ []) × (later ≡ [])
-NextItem is (Some i) later = is ≡ i.now ∷ later
 
 -- In a form an item that begins with a digit is a number.
 abbrev pub is_number : List ℕ → Bool

@@ -1,8 +1,7 @@
 -- The lines of a text, and the bytes that they may hold.
 use Rattle.std.specs.Prelude.{◌≡◌, ℕ, suc, ◌+◌, ◌≤◌, Bool, true, false, cond, ◌&&◌, List, [], ◌∷◌, length, drop, IfSome, Some, None, Option, ◌==◌, nat_le}
-use Rattle.forms.specs.Faults.{fault}
-use Rattle.forms.specs.declared.faults.Fault.{Fault}
-use Rattle.forms.specs.declared.faults.Layer.TheVariants.{Letters}
+use Rattle.std.specs.Iterator.{YieldsFirstBy}
+use Rattle.forms.specs.Faults.{Fault, Letters, fault}
 use Rattle.forms.specs.declared.faults.Place.{Place}
 use Rattle.forms.specs.declared.lines.Line.{Line as LinePart}
 use Rattle.forms.specs.declared.lines.Reader.{Reader}
@@ -51,20 +50,15 @@ first_place = record { line = 1; byte = 0 }
 abbrev pub lines_left : Reader → List Line
 lines_left r = lines r.place (drop r.place.byte r.text.now)
 
--- The next line, if there is one.
-abbrev pub Next : List Line → Option LinePart → List Line → Type 0
-Next ls None later = (ls ≡ []) × (later ≡ [])
-Next ls (Some l) later = ls ≡ line_of l ∷ later
-
--- A line lies within the longest text.
-abbrev pub LiesWithin : LinePart → Type 0
-LiesWithin l = l.place.byte + length l.part.now ≤ 32768
+-- A line lies within a text.
+abbrev pub LiesWithin : List ℕ → LinePart → Type 0
+LiesWithin text l = l.place.byte + length l.part.now ≤ length text
 
 -- What a reader hands out, and where it then stands.
 pub record HandsOut (before : Reader) (r : Option LinePart) (after : Reader) : Type 0 where
-  pub hands : Next (lines_left before) r (lines_left after)
+  pub hands : YieldsFirstBy line_of lines_left before r after
   pub counts : after.place.line + length (lines_left after) ≡ before.place.line + length (lines_left before)
-  pub lies : IfSome r LiesWithin
+  pub lies : IfSome r (LiesWithin before.text.now)
   pub keeps : after.text.now ≡ before.text.now
 
 -- The bytes that a line may hold.

@@ -1,7 +1,7 @@
 // The layer of forms: what a line says, or the first fault of its letters or of its form.
 ghost use Rattle.std.specs.Prelude.{◌≡◌};
 ghost use Rattle.forms.specs.Faults.{forms_told, reported};
-ghost use Rattle.forms.specs.Lines.{LiesWithin, line_of};
+ghost use Rattle.forms.specs.Lines.{line_of};
 ghost use Rattle.forms.specs.Sayings.{end_fits, form_judged};
 
 use crate::faults::FormsFault;
@@ -25,16 +25,13 @@ fn end_fits(said: Said) -> bool
 }
 
 pub fn form_said(line: Line) -> Result<Said, FormsFault>
-    requires { LiesWithin line }
     ensures { reported forms_told result ≡ form_judged (line_of line.entry) }
 {
     letters(line)?;
     if !line.ended || !is_form(line.part) {
         return Err(FormsFault::NotAForm(line.place));
     }
-    let Some(said) = said(line.part) else {
-        return Err(FormsFault::WrongItems(line.place));
-    };
+    let said = said(line.part).ok_or(FormsFault::WrongItems(line.place))?;
     if is_remark(line.part) || numbers_fit(line.part) && end_fits(said) {
         Ok(said)
     } else {

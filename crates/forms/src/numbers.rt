@@ -4,7 +4,6 @@ ghost use Rattle.forms.specs.Items.{is_number, items_left, numbers, numbers_fit,
 ghost use Rattle.forms.specs.Numbers.{NumbersByValue};
 
 use crate::items::Items;
-use crate::shapes::digit;
 
 // The largest number that a sheet may hold.
 const LARGEST: u64 = 4294967295;
@@ -16,29 +15,30 @@ const MOST_DIGITS: usize = 10;
 pub fn is_number(item: &[u8]) -> bool
     ensures { result ≡ is_number item.now }
 {
-    !item.is_empty() && digit(item[0])
+    item.first().is_some_and(|b| b.is_ascii_digit())
 }
 
-// The value of digits, or the largest number where it is past that.
+// The value of digits, or the largest number where it is past that: a `u32` holds no larger one, and `parse` would fail there.
 pub fn value(item: &[u8]) -> u32
     ensures { result ≡ value item.now }
 {
-    let mut value: u64 = 0;
-    for b in item {
-        value = (value * 10 + u64::from(b.saturating_sub(48))).min(LARGEST);
-    }
-    value as u32
+    item.iter().fold(0u32, |value, b| {
+        value
+            .saturating_mul(10)
+            .saturating_add(u32::from(b.saturating_sub(b'0')))
+    })
 }
 
-// Every run of digits is a number of at most ten digits that is not past the largest.
+// Every run of digits is a number of at most ten digits that is not past the largest. `parse` would want each run cut out first,
+// and take any number of zeros in front.
 pub fn numbers_fit(form: &[u8]) -> bool
     ensures { result ≡ numbers_fit form.now }
 {
     let mut count: usize = 0;
     let mut value: u64 = 0;
     for b in form {
-        if digit(*b) {
-            value = value * 10 + u64::from(b.saturating_sub(48));
+        if b.is_ascii_digit() {
+            value = value * 10 + u64::from(*b - b'0');
             if count >= MOST_DIGITS || value > LARGEST {
                 return false;
             }
@@ -56,22 +56,17 @@ pub fn numbers<const N: usize>(mut items: Items) -> Option<[u32; N]>
     ensures { result ≡ numbers N (items_left items.entry) }
 {
     let mut values = [0; N];
-    for k in 0..N {
+    for number in values.iter_mut() {
         let item = items.next()?;
         if !is_number(item) {
             return None;
         }
-        values[k] = value(item);
+        *number = value(item);
     }
-    match items.next() {
-        None => Some(values),
-        Some(_) => None,
-    }
+    items.next().is_none().then_some(values)
 }
 
 // Numbers count by value: one that is written in decimal digits is read as itself, with or without zeros in front.
-pub fn numbers_by_value() -> u8
+pub fn numbers_by_value()
     ensures { NumbersByValue }
-{
-    0
-}
+{}

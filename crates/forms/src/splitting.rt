@@ -1,29 +1,28 @@
 // A text's lines, handed out one after the other as parts of the text.
-ghost use Rattle.std.specs.Prelude.{◌≡◌, ◌+◌, ◌≤◌, length, drop};
+ghost use Rattle.std.specs.Prelude.{◌≡◌, ◌≤◌, length};
+ghost use Rattle.std.specs.Iterator.{item_count};
 ghost use Rattle.forms.specs.Lines.{first_place, HandsOut, line_length, lines, lines_left};
 
 use crate::faults::Place;
 use crate::lines::{Line, Reader};
 
-// Where the line that begins at `from` ends: at the next byte 10, or with the text.
-fn line_end(text: &[u8], from: usize) -> usize
-    requires { from ≤ length text.now }
-    ensures value { result ≡ from + line_length (drop from text.now) }
-    ensures within { result ≤ length text.now }
+// How long the first line of these bytes is: up to the first byte 10, or all of them.
+fn line_length(bytes: &[u8]) -> usize
+    ensures value { result ≡ line_length bytes.now }
+    ensures within { result ≤ length bytes.now }
 {
-    for end in from..text.len() {
-        if text[end] == b'\n' {
-            return end;
-        }
-    }
-    text.len()
+    bytes
+        .iter()
+        .position(|b| *b == b'\n')
+        .unwrap_or(bytes.len())
 }
 
 impl<'a> Reader<'a> {
     // A reader at the beginning of a text.
     pub fn new(text: &'a [u8]) -> Reader<'a>
-        requires { length text.now ≤ 32768 }
-        ensures { (lines_left result ≡ lines first_place text.now) × ((result.text.now ≡ text.now) × (result.place ≡ first_place)) }
+        ensures lines { lines_left result ≡ lines first_place text.now }
+        ensures text { result.text.now ≡ text.now }
+        ensures place { result.place ≡ first_place }
     {
         Reader {
             text,
@@ -37,24 +36,31 @@ impl<'a> Reader<'a> {
     {
         self.place
     }
+}
+
+impl<'a> Iterator for Reader<'a> {
+    type Item = Line<'a>;
+
+    ghost next_gives = { HandsOut };
+
+    ghost remaining = { item_count lines_left };
 
     // The next line, as a part of the text.
-    pub fn next(&mut self) -> Option<Line<'a>>
-        ensures { HandsOut self.old result self.new }
-    {
+    fn next(&mut self) -> Option<Line<'a>> {
         let text = self.text;
         let place = self.place;
         let start = place.byte;
         if start >= text.len() {
             return None;
         }
-        let end = line_end(text, start);
-        let ended = end < text.len();
+        let rest = &text[start..];
+        let length = line_length(rest);
+        let ended = length < rest.len();
         self.place = Place {
             line: place.line + 1,
-            byte: text.len().min(end + 1),
+            byte: text.len().min(start + length + 1),
         };
-        let part = &text[start..end];
+        let part = &rest[..length];
         Some(Line { part, place, ended })
     }
 }

@@ -8,18 +8,14 @@ use crate::calls::some_calls;
 use crate::items::Items;
 use crate::numbers::{is_number, numbers, value};
 use crate::sayings::{QueueName, Said};
-use crate::shapes::{is_remark, same};
+use crate::shapes::is_remark;
 use model::Duty;
 
 fn sheet_said(items: Items) -> Option<Said>
     ensures { result ≡ sheet_of_numbers (numbers 1 (items_left items.entry)) }
 {
     let [version] = numbers::<1>(items)?;
-    if version == 1 {
-        Some(Said::Sheet)
-    } else {
-        None
-    }
+    (version == 1).then_some(Said::Sheet)
 }
 
 fn duty_said(items: Items) -> Option<Said>
@@ -40,15 +36,10 @@ fn queue_said(mut items: Items) -> Option<Said>
     ensures { result ≡ queue_said (items_left items.entry) }
 {
     let name = items.next()?;
-    let None = items.next() else {
-        return None;
-    };
-    if same(name, b"first") {
-        Some(Said::Queue(QueueName::First))
-    } else if same(name, b"worth") {
-        Some(Said::Queue(QueueName::Worth))
-    } else {
-        None
+    match (name, items.next()) {
+        (b"first", None) => Some(Said::Queue(QueueName::First)),
+        (b"worth", None) => Some(Said::Queue(QueueName::Worth)),
+        _ => None,
     }
 }
 
@@ -56,11 +47,7 @@ fn at_said(mut items: Items) -> Option<Said>
     ensures { result ≡ at_said (items_left items.entry) }
 {
     let clock = items.next()?;
-    if is_number(clock) && some_calls(items) {
-        Some(Said::At(value(clock)))
-    } else {
-        None
-    }
+    (is_number(clock) && some_calls(items)).then(|| Said::At(value(clock)))
 }
 
 fn end_said(items: Items) -> Option<Said>
@@ -74,18 +61,13 @@ fn end_said(items: Items) -> Option<Said>
 fn worded(word: &[u8], items: Items) -> Option<Said>
     ensures { result ≡ worded word.now (items_left items.entry) }
 {
-    if same(word, b"sheet") {
-        sheet_said(items)
-    } else if same(word, b"duty") {
-        duty_said(items)
-    } else if same(word, b"queue") {
-        queue_said(items)
-    } else if same(word, b"at") {
-        at_said(items)
-    } else if same(word, b"end") {
-        end_said(items)
-    } else {
-        None
+    match word {
+        b"sheet" => sheet_said(items),
+        b"duty" => duty_said(items),
+        b"queue" => queue_said(items),
+        b"at" => at_said(items),
+        b"end" => end_said(items),
+        _ => None,
     }
 }
 

@@ -2,6 +2,7 @@ ghost use Rattle.std.specs.Prelude.{◌≡◌, Bool};
 ghost use Rattle.list.specs.Order.{same_rank, Strict, Chain};
 
 // Entries with a total order of their ranks. Two entries of which neither is before the other have the same rank.
+// This is not std's `Ord`, whose `==` must agree with its order: entries of one rank may still differ.
 pub trait Ranked {
     ghost before: { Self → Self → Bool };
 
@@ -16,7 +17,7 @@ pub trait Ranked {
 }
 
 // Neither entry is before the other.
-pub fn same_rank<E: Ranked>(x: &E, y: &E) -> bool
+pub(crate) fn same_rank<E: Ranked>(x: &E, y: &E) -> bool
     ensures { result ≡ same_rank E.before x.now y.now }
 {
     !x.is_before(y) && !y.is_before(x)

@@ -1,27 +1,16 @@
 // The ordered list on calls that are due at a clock: those of one clock stay as they came.
 #![tactic(auto)]
 
-ghost use Rattle.list.specs.Order.{by_number, by_number_strict, by_number_chain};
-
-use list::{OrderedList, Ranked};
+use list::{Numbered, OrderedList};
 use std::io;
 
-// A call, as a part of a text, and its clock.
-#[derive(Clone, Copy)]
-struct Due<'t> {
-    clock: u32,
-    call: &'t str,
-}
+// A call, as a part of a text, numbered by its clock.
+type Due<'t> = Numbered<&'t str>;
 
-impl<'t> Ranked for Due<'t> {
-    ghost before = { by_number (λ due. due.clock) };
-
-    ghost strict = { by_number_strict (λ due. due.clock) };
-
-    ghost chain = { by_number_chain (λ due. due.clock) };
-
-    fn is_before(&self, other: &Due<'t>) -> bool {
-        self.clock < other.clock
+fn due(clock: u32, call: &str) -> Due<'_> {
+    Numbered {
+        number: clock,
+        entry: call,
     }
 }
 
@@ -33,11 +22,8 @@ fn insert_all<'t>(
 ) -> io::Result<()> {
     print!(rt; "insert")?;
     for due in dues {
-        let number = match list.insert(*due) {
-            Ok(()) => 0,
-            Err(why) => why.number(),
-        };
-        print!(rt; " {number}")?;
+        let number = list.insert(*due).err().map(|why| why.number());
+        print!(rt; " {}", number.unwrap_or(0))?;
     }
     println!(rt; "")
 }
@@ -47,65 +33,22 @@ fn show(rt: &HostRuntime, list: &OrderedList<'_, Due<'_>>) -> io::Result<()> {
     let capacity = list.capacity();
     print!(rt; "{len} of {capacity}:")?;
     for due in list.entries() {
-        let clock = due.clock;
-        let call = due.call;
+        let clock = due.number;
+        let call = due.entry;
         print!(rt; " {clock} {call}")?;
     }
     println!(rt; "")
 }
 
 fn main(rt: HostRuntime) -> io::Result<()> {
-    let free = Due { clock: 0, call: "" };
-    let mut slots = [free; 4];
+    let mut slots = [Due::default(); 4];
     let mut list = OrderedList::new(&mut slots);
-    insert_all(
-        &rt,
-        &mut list,
-        &[
-            Due {
-                clock: 4,
-                call: "c",
-            },
-            Due {
-                clock: 0,
-                call: "a",
-            },
-            Due {
-                clock: 4,
-                call: "d",
-            },
-        ],
-    )?;
-    insert_all(
-        &rt,
-        &mut list,
-        &[
-            Due {
-                clock: 2,
-                call: "b",
-            },
-            Due {
-                clock: 0,
-                call: "e",
-            },
-        ],
-    )?;
+    insert_all(&rt, &mut list, &[due(4, "c"), due(0, "a"), due(4, "d")])?;
+    insert_all(&rt, &mut list, &[due(2, "b"), due(0, "e")])?;
     show(&rt, &list)?;
     let _ = list.remove(1);
     let _ = list.remove(3);
-    let _ = list.replace(
-        1,
-        Due {
-            clock: 4,
-            call: "f",
-        },
-    );
-    let _ = list.replace(
-        1,
-        Due {
-            clock: 5,
-            call: "g",
-        },
-    );
+    let _ = list.replace(1, due(4, "f"));
+    let _ = list.replace(1, due(5, "g"));
     show(&rt, &list)
 }

@@ -1,7 +1,7 @@
 -- What an admitted table gives: the limits of each duty, and for each row a time within its deadline that suffices
 -- for it and the rows above it.
-use Rattle.std.proofs.Common.{◌≡◌, ℕ, zero, suc, ◌<◌, ◌≤◌, true, not, ◌&&◌, leb, List, [], ◌∷◌, length, take, is_some, None, ap, arith}
-use Rattle.std.proofs.lemmas.Bool.{and_from, and_parts, le-leb, leb-true, not-false, not-true}
+use Rattle.std.proofs.Common.{◌≡◌, ℕ, zero, suc, ◌<◌, ◌≤◌, true, not, ◌&&◌, leb, List, [], ◌∷◌, length, take, is_some, None, arith}
+use Rattle.std.proofs.lemmas.Bool.{and_parts, leb-true, not-false, not-true}
 use Rattle.std.proofs.lemmas.Bool.Decides.{nat_tests}
 use Rattle.model.specs.Table.{busy, within_limits, all_within, suffices, response, late, first_late, admitted, duty_at}
 use Rattle.model.specs.declared.duties.Duty.{Duty}
@@ -48,12 +48,6 @@ admitted_says table ok =
       within = within;
       on_time = none_is (first_late table) (not-true (is_some (first_late table)) responses);
     }
-
-pub says_admitted : (table : List Duty) → Admitted table → admitted table ≡ true
-says_admitted table h =
-    and_from (leb (length table) 16 && all_within table) (not (is_some (first_late table)))
-    (and_from (leb (length table) 16) (all_within table) (le-leb (length table) 16 h.few) h.within)
-    (ap (λ o. not (is_some o)) h.on_time)
 
 module _ (table : List Duty) (ok : admitted table ≡ true) where
   -- Each duty is within its limits.

@@ -1,5 +1,5 @@
 -- What the proofs know of a quotient rounded up: it is 0 at 0, it does not fall, and one more separation
--- adds one. Nothing else opens its definition.
+-- adds one.
 use Rattle.std.proofs.Common.{◌≡◌, ℕ, zero, suc, ◌+◌, ◌-◌, ◌*◌, ◌/◌, ◌%◌, ◌<◌, ◌≤◌, ap, ◌∙◌, ⊎_elim, mod-lt, suc-mul, mul_comm, div-lt_iff_lt-mul, add-mul, mul-le-mul_left, le-div_iff_mul-le, zero-mul, div-mul-le_self, arith}
 use native.Mathlib.Nat.{add-div_right, div-add-mod, div-eq_of_lt, div-zero}
 use Rattle.std.proofs.lemmas.Bool.{cases_lt}

@@ -13,4 +13,5 @@ pub mod Runs
 pub mod Searches
 pub mod Table
 pub mod Totals
+pub mod Words
 pub mod Worked

@@ -29,7 +29,7 @@ pub enum Refusal {
 }
 
 impl Refusal {
-    // The number under which the refusal is reported.
+    // The number under which the refusal is reported. Those who read transcripts know refusals by it, so it is no `Display` in words.
     pub fn number(&self) -> u32
         ensures { result ≡ slice_index (told self.now) 0 }
     {

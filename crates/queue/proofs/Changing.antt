@@ -1,8 +1,8 @@
 -- What looks up among the errands of a line after a slot was lined up, dropped or rewritten, and that each errand
 -- still waits once.
-use Rattle.std.proofs.Common.{◌≡◌, ℕ, zero, suc, Bool, true, cond, eqb, List, [], ◌∷◌, is_some, Some, None, sym, refl, ap, ◌∙◌}
+use Rattle.std.proofs.Common.{◌≡◌, ℕ, zero, suc, Bool, true, cond, eqb, List, [], ◌∷◌, Some, None, sym, refl, ap, ◌∙◌}
 use Rattle.std.specs.List.{slice_get, remove}
-use Rattle.std.proofs.lemmas.Bool.{cond_both, cond-false, cond-true, eq-eqb, ne_eqb, both_ways}
+use Rattle.std.proofs.lemmas.Bool.{cond_both, cond-false, cond-true, eq-eqb, ne_eqb}
 use Rattle.model.specs.Queues.{look, distinct, errand_within}
 use Rattle.model.specs.declared.errands.Errand.{Errand}
 use Rattle.list.specs.Order.{placed}
@@ -13,8 +13,7 @@ use Rattle.queue.proofs.Lookups.{first_once, once_more}
 -- A number that waits nowhere is not the first errand's, and does not wait behind it.
 pub none_apart : (e : Errand) (es : List Errand) (n : ℕ) → look (e ∷ es) n ≡ None → e.number ≡ n → ⊥
 none_apart e es n h same =
-    let found : Some e ≡ None = sym (cond-true _ (Some e) (look es n) (eq-eqb _ _ same)) ∙ h in
-    both_ways (is_some (Some e)) (ap is_some found) refl
+    let found : Some e ≡ None = sym (cond-true _ (Some e) (look es n) (eq-eqb _ _ same)) ∙ h in cc
 
 pub none_behind : (e : Errand) (es : List Errand) (n : ℕ) → look (e ∷ es) n ≡ None → look es n ≡ None
 none_behind e es n h =
@@ -81,7 +80,7 @@ removed_once (x ∷ es) (suc i) h =
 
 pub look_removed_other : (es : List Errand) (i : ℕ) (e : Errand) (k : ℕ) → slice_get es i ≡ Some e → (k ≡ e.number → ⊥) →
     look (remove es i) k ≡ look es k
-look_removed_other [] i e k at apart = absurd (both_ways (is_some (Some e)) (ap is_some (sym at)) refl)
+look_removed_other [] i e k at apart = cc
 look_removed_other (x ∷ es) zero e k at apart =
     let same : x ≡ e = cc in
     sym (none_past x es k (λ q. apart (sym q ∙ ap (λ y. y.number) same)))
@@ -90,14 +89,14 @@ look_removed_other (x ∷ es) (suc i) e k at apart =
 
 -- A number does not wait twice, so it is gone with its errand.
 pub nth_waits : (es : List Errand) (i : ℕ) (e : Errand) → slice_get es i ≡ Some e → look es e.number ≡ None → ⊥
-nth_waits [] i e at none = both_ways (is_some (Some e)) (ap is_some (sym at)) refl
+nth_waits [] i e at none = cc
 nth_waits (x ∷ es) zero e at none =
     let same : x ≡ e = cc in none_apart x es _ none (ap (λ y. y.number) same)
 nth_waits (x ∷ es) (suc i) e at none = nth_waits es i e at (none_behind x es _ none)
 
 pub look_removed_same : (es : List Errand) (i : ℕ) (e : Errand) → slice_get es i ≡ Some e → distinct es ≡ true →
     look (remove es i) e.number ≡ None
-look_removed_same [] i e at once = absurd (both_ways (is_some (Some e)) (ap is_some (sym at)) refl)
+look_removed_same [] i e at once = cc
 look_removed_same (x ∷ es) zero e at once =
     let same : x.number ≡ e.number = (let q : x ≡ e = cc in ap (λ y. y.number) q) in
     ap (look es) (sym same) ∙ (first_once x es once).alone

@@ -1,19 +1,20 @@
 -- Slots that join a line in order of arrival: which is first, and what becomes of the line as slots change or leave.
-use Rattle.std.proofs.Common.{◌≡◌, ℕ, ◌-◌, Bool, true, false, cond, ◌&&◌, eqb, leb, List, [], ◌∷◌, ◌++◌, is_some, Some, None, Ok, Err, Option, Result, sym, refl, ap, ◌∙◌, ⊎_elim, append_assoc, append-nil}
-use Rattle.std.proofs.lemmas.Bool.{cond-true, cond-false, cond_both, and_from, and_parts, not-true, cases_Bool, both_ways, eq-eqb, ne_eqb, eqb-true}
+use Rattle.std.proofs.Common.{◌≡◌, ℕ, ◌-◌, Bool, true, false, cond, ◌&&◌, eqb, leb, List, [], ◌∷◌, ◌++◌, Some, None, Ok, Err, Option, Result, sym, refl, ap, ◌∙◌, ⊎_elim, append_assoc, append-nil}
+use Rattle.std.proofs.lemmas.Bool.{cond-true, cond-false, cond_both, and_from, and_parts, not-true, cases_Bool, eq-eqb, ne_eqb, eqb-true}
 use Rattle.model.specs.Queues.{Spend, look, distinct}
 use Rattle.model.specs.declared.errands.Errand.{Errand}
 use Rattle.model.specs.declared.refusals.Refusal.{Refusal}
-use Rattle.list.specs.Held.{held}
+use Rattle.list.specs.Held.{held, Inserts}
 use Rattle.list.specs.declared.ordered.OrderedList.{OrderedList}
 use Rattle.list.specs.Order.{none_before, sorted, placed}
 use Rattle.list.proofs.Sorting.{placed_keeps_sorted}
-use Rattle.queue.specs.Lines.{errands, line_meaning, first_number, spent, without, LinesUp}
+use Rattle.queue.specs.Lines.{errands, line_meaning, first_number}
 use Rattle.queue.specs.Ranks.{ranks, ranks_strict, ranks_chain}
 use Rattle.queue.specs.Ratings.{outrates}
 use Rattle.queue.specs.Slots.{Holds, with_units}
-use Rattle.queue.specs.Worths.{best_from, best, joining, before_all, each_to, gone, worked, after_spend, Stands, Joins}
+use Rattle.queue.specs.Orders.{best_from, best, joining, before_all, each_to, gone, worked, after_spend, Stands, Joins}
 use Rattle.queue.specs.declared.slots.Slot.{Slot}
+use Rattle.queue.proofs.After.{spent, without}
 use Rattle.queue.proofs.Changing.{none_apart, none_behind}
 use Rattle.queue.proofs.Lookups.{first_once}
 
@@ -51,7 +52,7 @@ beats s (y ∷ ys) = ranks s y && beats s ys
 
 beats_behind : (s x y : Slot) → ranks s x ≡ true → ranks y x ≡ false → ranks s y ≡ true
 beats_behind s x y t f =
-    ⊎_elim (λ h. h) (λ h. absurd (both_ways (ranks s x) (ranks_chain s y x h f) t)) (cases_Bool (ranks s y))
+    ⊎_elim (λ h. h) (λ h. cc (ranks_chain s y x h f)) (cases_Bool (ranks s y))
 
 -- What outrates a slot of a line in order outrates all behind it.
 beats_rest : (s x : Slot) → ranks s x ≡ true → (xs : List Slot) → none_before ranks x xs ≡ true → beats s xs ≡ true
@@ -134,7 +135,7 @@ worked_others n s apart = cond-false _ _ _ (ne_eqb _ _ apart)
 pub gone_keeps : (n : ℕ) → Keeps (gone n)
 gone_keeps n s t =
     cond_both (eqb s.errand.number n) None (Some s) (λ o. o ≡ Some t → t.rating ≡ s.rating)
-    (λ _ e. absurd (both_ways (is_some (Some t)) (sym (ap is_some e)) refl))
+    (λ _ e. cc)
     (λ _ e. let same : s ≡ t = cc in ap (λ x. x.rating) (sym same))
 
 pub worked_keeps : (n : ℕ) → Keeps (worked n)
@@ -144,7 +145,7 @@ worked_keeps n s t =
     cond_both (eqb s.errand.number n) (cond (leb s.errand.units 1) None (Some less)) (Some s) P
     (λ _.
     cond_both (leb s.errand.units 1) None (Some less) P
-    (λ _ e. absurd (both_ways (is_some (Some t)) (sym (ap is_some e)) refl))
+    (λ _ e. cc)
     (λ _ e. let same : less ≡ t = cc in ap (λ x. x.rating) (sym same)))
     (λ _ e. let same : s ≡ t = cc in ap (λ x. x.rating) (sym same))
 
@@ -163,7 +164,7 @@ without_is_gone n (s ∷ ss) once =
 
 pub spent_is_worked : (n : ℕ) (ss : List Slot) → first_number (errands ss) ≡ Some n → distinct (errands ss) ≡ true →
     spent ss ≡ each_to (worked n) ss
-spent_is_worked n [] named once = absurd (both_ways (is_some (Some n)) (ap is_some (sym named)) refl)
+spent_is_worked n [] named once = cc
 spent_is_worked n (s ∷ ss) named once =
     let f = first_once s.errand (errands ss) once in
     let same : s.errand.number ≡ n = cc in
@@ -177,16 +178,17 @@ spent_is_worked n (s ∷ ss) named once =
 
 nothing_spent : (ss : List Slot) → first_number (errands ss) ≡ None → ss ≡ spent ss
 nothing_spent [] none = refl
-nothing_spent (s ∷ ss) none = absurd (both_ways (is_some (Some s.errand.number)) (ap is_some none) refl)
+nothing_spent (s ∷ ss) none = cc
 
 -- The calls, for any order of arrival.
-pub stands_put : {X : Type 0} (l m : OrderedList Slot) (s : Slot) (e : Errand) (r : Result X Refusal) →
-    Holds e e.worth e.units s → LinesUp l s r m → (came : List Slot) → Stands came (held l) → Joins came e r (held m)
-stands_put l m s e (Ok x) holds up came stands =
-    (s, holds, up ∙ ap (placed ranks s) stands ∙ sym (joining_push [] came s))
-stands_put l m s e (Err why) holds up came stands = ap held up ∙ stands
+pub stands_put : {X : Type 0} {R : _} (worth units : Errand → ℕ) (l m : OrderedList Slot R) (s : Slot) (e : Errand)
+    (r : Result X Refusal) → Holds e (worth e) (units e) s → Inserts ranks l s r m → (came : List Slot) → Stands came (held l) →
+    Joins worth units came e r (held m)
+stands_put worth units l m s e (Ok x) holds done came stands =
+    (s, holds, done.1.holds ∙ ap (placed ranks s) stands ∙ sym (joining_push [] came s))
+stands_put worth units l m s e (Err why) holds done came stands = ap held done.2 ∙ stands
 
-pub stands_spend : (l m : OrderedList Slot) (r : Option ℕ) → Spend (line_meaning l) r (line_meaning m) →
+pub stands_spend : {R : _} (l m : OrderedList Slot R) (r : Option ℕ) → Spend (line_meaning l) r (line_meaning m) →
     distinct (errands (held l)) ≡ true → held m ≡ spent (held l) → (came : List Slot) → Stands came (held l) →
     Stands (after_spend r came) (held m)
 stands_spend l m None spends once is came stands = is ∙ sym (nothing_spent (held l) spends.0) ∙ stands
@@ -194,7 +196,7 @@ stands_spend l m (Some n) spends once is came stands =
     is ∙ spent_is_worked n (held l) spends.0 once ∙ ap (each_to (worked n)) stands
     ∙ each_joining (worked n) (worked_keeps n) [] came refl
 
-pub stands_take : (l m : OrderedList Slot) (n : ℕ) → distinct (errands (held l)) ≡ true → held m ≡ without n (held l) →
+pub stands_take : {R : _} (l m : OrderedList Slot R) (n : ℕ) → distinct (errands (held l)) ≡ true → held m ≡ without n (held l) →
     (came : List Slot) → Stands came (held l) → Stands (each_to (gone n) came) (held m)
 stands_take l m n once is came stands =
     is ∙ without_is_gone n (held l) once ∙ ap (each_to (gone n)) stands

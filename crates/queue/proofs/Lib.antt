@@ -1,3 +1,4 @@
+mod After
 mod Arriving
 mod Calling
 mod Changing

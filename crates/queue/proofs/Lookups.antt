@@ -1,35 +1,64 @@
 -- Looking numbers up among the errands that wait.
-use Rattle.std.proofs.Common.{◌≡◌, ℕ, zero, suc, ◌<◌, min, true, false, cond, eqb, List, [], ◌∷◌, length, take, is_some, Some, None, Option, sym, refl, ap, ◌∙◌, ⊎_elim, arith}
-use Rattle.std.specs.List.{slice_get}
-use Rattle.std.proofs.lemmas.List.{take_all}
-use Rattle.std.proofs.lemmas.Bool.{and_from, and_parts, not-true, not_from_false, cond-false, cond-true, eqb-true, cases_Bool, cases_lt, both_ways}
+use Rattle.std.proofs.Common.{◌≡◌, ℕ, suc, ◌+◌, Bool, true, false, cond, not, eqb, nat_lt, List, [], ◌∷◌, length, is_some, Some, None, Option, sym, refl, ap, ◌∙◌, ⊎_elim, arith}
+use Rattle.std.specs.List.{slice_get, position_from, position_or_len}
+use Rattle.std.specs.Option.{option_map}
+use Rattle.std.proofs.lemmas.Iterator.Adapters.{position_from-zero}
+use Rattle.std.proofs.lemmas.Bool.{and_from, and_parts, not-true, not_from_false, cond-false, cond-true, cond_both, eqb-true, cases_Bool}
 use Rattle.model.specs.Queues.{look, distinct, errand_within}
 use Rattle.model.specs.declared.errands.Errand.{Errand}
-use Rattle.queue.specs.Lines.{place_of}
+use Rattle.queue.specs.Lines.{errands, place_of}
+use Rattle.queue.specs.declared.slots.Slot.{Slot}
 
 pub none_from_test : {X : Type 0} (o : Option X) → is_some o ≡ false → o ≡ None
 none_from_test None h = refl
-none_from_test (Some x) h = absurd (both_ways (is_some (Some x)) h refl)
-
--- The errand of a number is the one at its place.
-pub look_at_place : (es : List Errand) (n : ℕ) → look es n ≡ slice_get es (place_of n es)
-look_at_place [] n = refl
-look_at_place (e ∷ es) n =
-    elim (eqb e.number n) as (λ b. cond b (Some e) (look es n) ≡ slice_get (e ∷ es) (cond b 0 (suc (place_of n es))))
-    [ true ↦ refl | false ↦ look_at_place es n ]
+none_from_test (Some x) h = cc
 
 pub look_number : (es : List Errand) (n : ℕ) (e : Errand) → look es n ≡ Some e → e.number ≡ n
-look_number [] n e h = absurd (both_ways (is_some (Some e)) (ap is_some (sym h)) refl)
+look_number [] n e h = cc
 look_number (x ∷ es) n e h =
     ⊎_elim
     (λ t. let same : Some x ≡ Some e = sym (cond-true _ (Some x) (look es n) t) ∙ h in
     let number : x.number ≡ n = eqb-true _ _ t in cc)
     (λ f. look_number es n e (sym (cond-false _ (Some x) (look es n) f) ∙ h)) (cases_Bool (eqb x.number n))
 
-pub some_within : {X : Type 0} (xs : List X) (i : ℕ) → i < length xs → is_some (slice_get xs i) ≡ true
-some_within [] i h = absurd (omega arith)
-some_within (x ∷ xs) zero h = refl
-some_within (x ∷ xs) (suc i) h = some_within xs i (omega arith)
+-- A number has a place among the slots exactly when it waits.
+abbrev pub numbered : ℕ → Slot → Bool
+numbered n s = eqb s.errand.number n
+
+waits_behind : (n i : ℕ) (ss : List Slot) → is_some (position_from (numbered n) i ss) ≡ is_some (look (errands ss) n)
+waits_behind n i [] = refl
+waits_behind n i (s ∷ ss) =
+    elim (eqb s.errand.number n)
+    as (λ b.
+    is_some (cond b (Some i) (position_from (numbered n) (i + 1) ss)) ≡ is_some (cond b (Some s.errand) (look (errands ss) n)))
+    [ true ↦ refl | false ↦ waits_behind n (i + 1) ss ]
+
+pub waits_somewhere : (n : ℕ) (ss : List Slot) → is_some (place_of n ss) ≡ is_some (look (errands ss) n)
+waits_somewhere n ss = ap is_some (position_from-zero (numbered n) ss) ∙ waits_behind n 0 ss
+
+pub waits_nowhere : (n : ℕ) (ss : List Slot) → is_some (place_of n ss) ≡ false → look (errands ss) n ≡ None
+waits_nowhere n ss h = none_from_test _ (sym (waits_somewhere n ss) ∙ h)
+
+-- The errand of a number is the one at its place.
+pub place_is : (n : ℕ) (ss : List Slot) (i : ℕ) → place_of n ss ≡ Some i → position_or_len (numbered n) ss ≡ i
+place_is n ss i =
+    let first = position_or_len (numbered n) ss in
+    cond_both (nat_lt first (length ss)) (Some first) None (λ o. o ≡ Some i → first ≡ i) (λ _ h. cc) (λ _ h. cc)
+
+look_first_place : (n : ℕ) (ss : List Slot) →
+    look (errands ss) n ≡ option_map (λ s. s.errand) (slice_get ss (position_or_len (numbered n) ss))
+look_first_place n [] = refl
+look_first_place n (s ∷ ss) =
+    let next : 1 + position_or_len (numbered n) ss ≡ suc (position_or_len (numbered n) ss) = omega arith in
+    elim (eqb s.errand.number n)
+    as (λ b.
+    cond b (Some s.errand) (look (errands ss) n)
+    ≡ option_map (λ x. x.errand) (slice_get (s ∷ ss) (cond (not b) (1 + position_or_len (numbered n) ss) 0)))
+    [ true ↦ refl | false ↦ rw next (look_first_place n ss) ]
+
+pub look_at : (n : ℕ) (ss : List Slot) (i : ℕ) → place_of n ss ≡ Some i →
+    look (errands ss) n ≡ option_map (λ s. s.errand) (slice_get ss i)
+look_at n ss i at = look_first_place n ss ∙ ap (λ k. option_map (λ s. s.errand) (slice_get ss k)) (place_is n ss i at)
 
 -- What the fact that each errand is within its limits and waits once says of the first.
 pub record FirstOnce (e : Errand) (es : List Errand) : Type 0 where
@@ -46,9 +75,3 @@ first_once e es h =
 pub once_more : (e : Errand) (es : List Errand) → FirstOnce e es → distinct (e ∷ es) ≡ true
 once_more e es f =
     and_from _ _ (and_from _ _ f.within (not_from_false _ (ap is_some f.alone))) f.rest
-
--- As many as there are, and at most `most`, are the first `most`.
-pub take_most : {X : Type 0} (xs : List X) (n most : ℕ) → n ≡ min (length xs) most → take n xs ≡ take most xs
-take_most xs n most h =
-    ⊎_elim (λ l. let same : n ≡ most = omega arith in ap (λ k. take k xs) same)
-    (λ l. take_all n xs (omega arith) ∙ sym (take_all most xs l)) (cases_lt most (length xs))

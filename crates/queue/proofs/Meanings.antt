@@ -30,7 +30,7 @@ refused_not m e h k room =
     cond-false _ _ _ (not_from_true _ h) ∙ cond-false _ _ _ (ap is_some k) ∙ cond-false _ _ _ (lt-leb _ _ room)
 
 -- A slot was lined up.
-pub placed_changes : (l m : OrderedList Slot) (s : Slot) → errand_within s.errand ≡ true →
+pub placed_changes : {R : _} (l m : OrderedList Slot R) (s : Slot) → errand_within s.errand ≡ true →
     look (errands (held l)) s.errand.number ≡ None → distinct (errands (held l)) ≡ true →
     Becomes l (placed ranks s (held l)) m → Changes (line_meaning l) s.errand.number (Some s.errand) (line_meaning m)
 placed_changes l m s within none once done =
@@ -42,14 +42,14 @@ placed_changes l m s within none once done =
       sound = line_sound m (ap distinct after ∙ placed_once ranks s (held l) within none once);
     }
 
-errands_removed : (xs : List Slot) (i : ℕ) → errands (remove xs i) ≡ remove (errands xs) i
+pub errands_removed : (xs : List Slot) (i : ℕ) → errands (remove xs i) ≡ remove (errands xs) i
 errands_removed [] zero = refl
 errands_removed [] (suc i) = refl
 errands_removed (x ∷ xs) zero = refl
 errands_removed (x ∷ xs) (suc i) = ap (λ es. x.errand ∷ es) (errands_removed xs i)
 
 -- A slot was dropped.
-pub removed_changes : (l m : OrderedList Slot) (i : ℕ) (e : Errand) → slice_get (errands (held l)) i ≡ Some e →
+pub removed_changes : {R : _} (l m : OrderedList Slot R) (i : ℕ) (e : Errand) → slice_get (errands (held l)) i ≡ Some e →
     distinct (errands (held l)) ≡ true → Becomes l (remove (held l) i) m →
     Changes (line_meaning l) e.number None (line_meaning m)
 removed_changes l m i e at once done =
@@ -62,7 +62,7 @@ removed_changes l m i e at once done =
     }
 
 -- The first slot's units changed.
-pub first_changes : (l m : OrderedList Slot) (s : Slot) (ss : List Slot) (units : ℕ) → held l ≡ s ∷ ss →
+pub first_changes : {R : _} (l m : OrderedList Slot R) (s : Slot) (ss : List Slot) (units : ℕ) → held l ≡ s ∷ ss →
     distinct (errands (held l)) ≡ true → errand_within (with_units s units).errand ≡ true →
     Becomes l (with_units s units ∷ ss) m →
     Changes (line_meaning l) s.errand.number (Some (with_units s units).errand) (line_meaning m)

@@ -1,15 +1,8 @@
--- The first-come queue in its own words: its errands in order of arrival.
+-- What the calls make of the errands of a line, the first in line first.
 use Rattle.std.specs.Prelude.{◌≡◌, ℕ, cond, List, [], ◌∷◌, ◌++◌, Some, None, Ok, Err, Option, Result, ◌==◌}
 use Rattle.model.specs.Queues.{one_less}
 use Rattle.model.specs.declared.errands.Errand.{Errand}
 use Rattle.model.specs.declared.refusals.Refusal.{Refusal}
-use Rattle.list.specs.Held.{held}
-use Rattle.queue.specs.Lines.{errands}
-use Rattle.queue.specs.declared.arrivals.FirstCome.{FirstCome}
-
--- The errands that wait, the one put earliest first.
-abbrev pub arrivals : FirstCome → List Errand
-arrivals q = errands (held q.line)
 
 -- An errand that is put arrives behind all others.
 abbrev pub Arrives : {X : Type 0} → List Errand → Errand → Result X Refusal → List Errand → Type 0

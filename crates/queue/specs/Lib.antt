@@ -1,6 +1,6 @@
 pub mod Arrivals
 pub mod Lines
+pub mod Orders
 pub mod Ranks
 pub mod Ratings
 pub mod Slots
-pub mod Worths

@@ -1,14 +1,14 @@
-// Queues of errands: what every queue answers, and two queues over handed slots.
+// Queues of errands: what every queue answers, and a queue over handed slots, by a rule for how it rates errands.
 #![tactic(auto)]
 
-mod arrivals;
-mod lines;
+mod errand_queue;
 mod queues;
 mod ratings;
+mod rules;
 mod slots;
-mod worths;
 
-pub use arrivals::FirstCome;
+pub use errand_queue::{ByWorth, ErrandQueue, FirstCome};
 pub use queues::Queue;
+pub use ratings::Rating;
+pub use rules::{Alike, Rule, WorthForUnits, rules_as_named};
 pub use slots::Slot;
-pub use worths::ByWorth;

@@ -4,6 +4,7 @@ ghost use Rattle.queue.specs.Ranks.{ranks, ranks_strict, ranks_chain};
 ghost use Rattle.queue.specs.Slots.{Holds, Made, with_units};
 
 use super::ratings::Rating;
+use super::rules::Rule;
 use list::Ranked;
 use model::{Errand, Refusal};
 
@@ -34,7 +35,7 @@ const MOST_WORTH: u32 = 65535;
 fn within_limits(errand: &Errand) -> bool
     ensures { result ≡ errand_within errand.now }
 {
-    1 <= errand.units && errand.units <= MOST_UNITS && errand.worth <= MOST_WORTH
+    (1..=MOST_UNITS).contains(&errand.units) && errand.worth <= MOST_WORTH
 }
 
 impl Slot {
@@ -52,29 +53,16 @@ impl Slot {
         }
     }
 
-    // A slot for an errand that is rated as every other, so that it outrates none.
-    pub(crate) fn level(errand: Errand) -> Result<Slot, Refusal>
-        ensures { Made errand 0 1 result }
+    // A slot for an errand that is rated by a rule.
+    pub(crate) fn rated<R: Rule>(errand: Errand) -> Result<Slot, Refusal>
+        ensures { Made errand (R.worth errand) (R.units errand) result }
     {
         if !within_limits(&errand) {
             return Err(Refusal::ErrandLimits);
         }
         Ok(Slot {
             errand,
-            rating: Rating::of(0, 1),
-        })
-    }
-
-    // A slot for an errand that is rated by its worth for its units.
-    pub(crate) fn rated(errand: Errand) -> Result<Slot, Refusal>
-        ensures { Made errand errand.worth errand.units result }
-    {
-        if !within_limits(&errand) {
-            return Err(Refusal::ErrandLimits);
-        }
-        Ok(Slot {
-            errand,
-            rating: Rating::of(errand.worth, errand.units),
+            rating: R::rating(&errand),
         })
     }
 
@@ -89,14 +77,12 @@ impl Slot {
     pub(crate) fn with_units(&self, units: u32) -> Slot
         ensures { result ≡ with_units self.now units }
     {
-        let errand = Errand {
-            number: self.errand.number,
-            units,
-            worth: self.errand.worth,
-        };
         Slot {
-            errand,
-            rating: self.rating,
+            errand: Errand {
+                units,
+                ..self.errand
+            },
+            ..*self
         }
     }
 }

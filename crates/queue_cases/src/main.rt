@@ -1,8 +1,8 @@
 // The queues on small cases: what they refuse, and in which order they serve.
 #![tactic(auto)]
 
-use model::{Errand, Refusal};
-use queue::{ByWorth, FirstCome, Queue, Slot};
+use model::Errand;
+use queue::{Alike, ByWorth, ErrandQueue, FirstCome, Queue, Rule, Slot, WorthForUnits};
 use std::io;
 
 fn errand(number: u32, units: u32, worth: u32) -> Errand {
@@ -13,20 +13,12 @@ fn errand(number: u32, units: u32, worth: u32) -> Errand {
     }
 }
 
-// The number of the refusal, 0 where there was none.
-fn refusal(answer: Result<(), Refusal>) -> u32 {
-    match answer {
-        Ok(()) => 0,
-        Err(why) => why.number(),
-    }
-}
-
-// Puts the errands one by one, and prints what refused each.
+// Puts the errands one by one, and prints the number of what refused each, 0 where nothing did.
 fn put_all<Q: Queue>(rt: &HostRuntime, queue: &mut Q, errands: &[Errand]) -> io::Result<()> {
     print!(rt; "put")?;
     for errand in errands {
-        let number = refusal(queue.put(*errand));
-        print!(rt; " {number}")?;
+        let number = queue.put(*errand).err().map(|why| why.number());
+        print!(rt; " {}", number.unwrap_or(0))?;
     }
     println!(rt; "")
 }
@@ -35,10 +27,7 @@ fn put_all<Q: Queue>(rt: &HostRuntime, queue: &mut Q, errands: &[Errand]) -> io:
 fn take_one<Q: Queue>(rt: &HostRuntime, queue: &mut Q, number: u32) -> io::Result<()> {
     match queue.take(number) {
         Ok(units) => println!(rt; "take {number} had {units}"),
-        Err(why) => {
-            let refused = why.number();
-            println!(rt; "take {number} refused {refused}")
-        }
+        Err(why) => println!(rt; "take {number} refused {}", why.number()),
     }
 }
 
@@ -117,20 +106,13 @@ fn filled<Q: Queue + Drop>(rt: &HostRuntime, mut queue: Q) -> io::Result<()> {
     println!(rt; "places {places}")
 }
 
-fn first_come(rt: &HostRuntime) -> io::Result<()> {
+// In which order a queue of a rule serves.
+fn served<R: Rule>(rt: &HostRuntime, rule: &str) -> io::Result<()> {
     let mut slots = [Slot::free(); 8];
-    println!(rt; "first come")?;
-    rated(rt, FirstCome::new(&mut slots))?;
-    tied(rt, FirstCome::new(&mut slots))?;
-    taken(rt, FirstCome::new(&mut slots))
-}
-
-fn by_worth(rt: &HostRuntime) -> io::Result<()> {
-    let mut slots = [Slot::free(); 8];
-    println!(rt; "by worth")?;
-    rated(rt, ByWorth::new(&mut slots))?;
-    tied(rt, ByWorth::new(&mut slots))?;
-    taken(rt, ByWorth::new(&mut slots))
+    println!(rt; "{rule}")?;
+    rated(rt, ErrandQueue::<R>::new(&mut slots))?;
+    tied(rt, ErrandQueue::<R>::new(&mut slots))?;
+    taken(rt, ErrandQueue::<R>::new(&mut slots))
 }
 
 fn full(rt: &HostRuntime) -> io::Result<()> {
@@ -143,7 +125,7 @@ fn full(rt: &HostRuntime) -> io::Result<()> {
 }
 
 fn main(rt: HostRuntime) -> io::Result<()> {
-    first_come(&rt)?;
-    by_worth(&rt)?;
+    served::<Alike>(&rt, "first come")?;
+    served::<WorthForUnits>(&rt, "by worth")?;
     full(&rt)
 }

@@ -1,4 +1,6 @@
 pub mod Called
-pub mod Finishes
+pub mod Counted
 pub mod Judgements
 pub mod Lined
+pub mod Printed
+pub mod Punctual

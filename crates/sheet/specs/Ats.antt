@@ -1,14 +1,21 @@
--- The calls of an at-line.
-use Rattle.std.specs.Prelude.{◌≡◌, ℕ, List, [], ◌∷◌, take, drop, Some, None, Option}
+-- At-lines, and their calls.
+use Rattle.std.specs.Prelude.{ℕ, List, [], ◌∷◌, Some, None}
 use Rattle.model.specs.declared.calls.Call.{Call}
 use Rattle.forms.specs.Items.{inside, items, items_left}
 use Rattle.forms.specs.Sayings.{call}
-use Rattle.sheet.specs.declared.ats.Calls.{Calls}
+use Rattle.forms.specs.declared.faults.Place.{Place}
 use Rattle.sheet.specs.declared.ats.At.{At}
+use Rattle.sheet.specs.declared.ats.Calls.{Calls}
 
--- The bytes of an at-line.
-abbrev pub at_part : List ℕ → At → List ℕ
-at_part text a = drop a.start (take a.end text)
+-- An at-line: its clock, its place and its bytes.
+pub record AtLine : Type 0 where
+  pub clock : ℕ
+  pub place : Place
+  pub bytes : List ℕ
+
+-- The at-line that a part of a text stands for.
+abbrev pub at_of : At → AtLine
+at_of a = record { clock = a.clock; place = a.place; bytes = a.part.now }
 
 -- The calls that items are, up to the first that is none.
 abbrev pub calls_in : List (List ℕ) → List Call
@@ -21,18 +28,13 @@ behind_first [] = []
 behind_first (i ∷ is) = is
 
 -- The items of an at-line behind its word and its clock.
-abbrev pub call_items : List ℕ → At → List (List ℕ)
-call_items text a = behind_first (behind_first (items 0 (inside (at_part text a))))
+abbrev pub call_items : AtLine → List (List ℕ)
+call_items a = behind_first (behind_first (items 0 (inside a.bytes)))
 
 -- The calls of an at-line.
-abbrev pub calls_of : List ℕ → At → List Call
-calls_of text a = calls_in (call_items text a)
+abbrev pub calls_of : AtLine → List Call
+calls_of a = calls_in (call_items a)
 
 -- The calls that are still to be handed out.
 abbrev pub calls_left : Calls → List Call
 calls_left r = calls_in (items_left r.items)
-
--- The next call, if there is one.
-abbrev pub NextCall : List Call → Option Call → List Call → Type 0
-NextCall cs None later = cs ≡ []
-NextCall cs (Some c) later = cs ≡ c ∷ later

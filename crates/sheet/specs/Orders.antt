@@ -1,20 +1,18 @@
 -- The order of lines, and what each line does to the sheet as far as it is read. The faults of the layers sheet and
 -- table.
-use Rattle.std.specs.Prelude.{ℕ, ◌+◌, Bool, true, false, List, [], ◌∷◌, ◌++◌, length, take, Some, None, Ok, Err, Option, Result, nat_lt}
+use Rattle.std.specs.Prelude.{ℕ, Bool, true, false, List, [], ◌∷◌, ◌++◌, length, map, Some, None, Ok, Err, Option, Result, nat_lt}
 use Rattle.model.specs.Table.{add_refusal, after_add}
 use Rattle.model.specs.declared.duties.Duty.{Duty}
 use Rattle.table.specs.Settings.{table_of}
-use Rattle.forms.specs.Faults.{fault, judged, unless}
+use Rattle.forms.specs.Faults.{Fault, Sheet as SheetLayer, fault, judged, unless}
+use Rattle.sheet.specs.Ats.{AtLine, at_of}
 use Rattle.sheet.specs.Told.{table_fault}
 use Rattle.forms.specs.Lines.{Line}
 use Rattle.forms.specs.Sayings.{forms_faults, letters_faults, says}
 use Rattle.sheet.specs.declared.drafts.Draft.{Draft}
 use Rattle.sheet.specs.declared.drafts.Stage.{Stage}
 use Rattle.sheet.specs.declared.drafts.Stage.TheVariants.{Start, Duties, Ats, Over}
-use Rattle.forms.specs.declared.faults.Fault.{Fault}
-use Rattle.forms.specs.declared.faults.Layer.TheVariants.{Sheet as SheetLayer}
 use Rattle.forms.specs.declared.faults.Place.{Place}
-use Rattle.sheet.specs.declared.ats.At.{At as AtLine}
 use Rattle.forms.specs.declared.sayings.QueueName.{QueueName}
 use Rattle.forms.specs.declared.sayings.QueueName.TheVariants.{First}
 use Rattle.forms.specs.declared.sayings.Said.{Said}
@@ -33,7 +31,7 @@ nothing_read = record { stage = Start; table = []; queue = First; ats = []; tick
 
 abbrev pub so_far : Draft → SoFar
 so_far d =
-    record { stage = d.stage; table = table_of d.setting; queue = d.queue; ats = take d.count d.ats; ticks = d.ticks }
+    record { stage = d.stage; table = table_of d.sheet.setting; queue = d.sheet.queue; ats = map at_of d.sheet.ats.items; ticks = d.sheet.ticks }
 
 -- Which lines may come: first the sheet line; then duties and a queue line; then at-lines and an end line; and remarks
 -- anywhere after the first line.
@@ -88,8 +86,7 @@ table_faults s l = fault_of_table s l ∷ []
 
 -- The at-line that a line is, with its clock.
 abbrev pub at_line : ℕ → Line → AtLine
-at_line clock l =
-    record { clock = clock; line = l.place.line; start = l.place.byte; end = l.place.byte + length l.bytes }
+at_line clock l = record { clock = clock; place = l.place; bytes = l.bytes }
 
 -- What a line adds.
 abbrev pub with_said : SoFar → Line → Said → SoFar
@@ -129,3 +126,8 @@ lines_judged s (l ∷ ls) = elim (line_judged s l) [ Ok t ↦ lines_judged t ls 
 abbrev pub left_with : {X E : Type 0} → (E → Fault) → Result X E → SoFar → Result SoFar Fault
 left_with tells (Ok x) s = Ok s
 left_with tells (Err e) s = Err (tells e)
+
+-- A draft as far as it is read, or a fault.
+abbrev pub drafted : {E : Type 0} → (E → Fault) → Result Draft E → Result SoFar Fault
+drafted tells (Ok d) = Ok (so_far d)
+drafted tells (Err e) = Err (tells e)

@@ -1,18 +1,15 @@
 -- Which sheet a text is, or which fault it has.
-use Rattle.std.specs.Prelude.{ℕ, ◌+◌, Bool, true, false, cond, List, [], ◌∷◌, length, take, Some, None, Ok, Err, Option, Result, nat_le, nat_lt}
+use Rattle.std.specs.Prelude.{ℕ, ◌+◌, Bool, true, false, cond, List, [], ◌∷◌, length, map, Some, None, Ok, Err, Option, Result, nat_le, nat_lt}
 use Rattle.model.specs.declared.duties.Duty.{Duty}
 use Rattle.table.specs.Settings.{table_of}
-use Rattle.forms.specs.Faults.{fault, judged, unless}
-use Rattle.forms.specs.Lines.{first_place, lines, lines_left}
+use Rattle.forms.specs.Faults.{Fault, Sheet as SheetLayer, fault, judged, unless}
+use Rattle.forms.specs.Lines.{first_place, lines}
+use Rattle.sheet.specs.Ats.{AtLine, at_of}
 use Rattle.sheet.specs.Orders.{SoFar, lines_judged, nothing_read}
 use Rattle.sheet.specs.declared.drafts.Sheet.{Sheet}
 use Rattle.sheet.specs.declared.drafts.Stage.{Stage}
 use Rattle.sheet.specs.declared.drafts.Stage.TheVariants.{Start, Duties, Ats, Over}
-use Rattle.forms.specs.declared.faults.Fault.{Fault}
-use Rattle.forms.specs.declared.faults.Layer.TheVariants.{Sheet as SheetLayer}
 use Rattle.forms.specs.declared.faults.Place.{Place}
-use Rattle.forms.specs.declared.lines.Reader.{Reader}
-use Rattle.sheet.specs.declared.ats.At.{At as AtLine}
 use Rattle.forms.specs.declared.sayings.QueueName.{QueueName}
 
 -- What a sheet sets: a table, a queue, at-lines in the order of their lines, and a number of ticks.
@@ -23,7 +20,7 @@ pub record Set : Type 0 where
   pub ticks : ℕ
 
 abbrev pub set_by : Sheet → Set
-set_by s = record { table = table_of s.setting; queue = s.queue; ats = take s.count s.ats; ticks = s.ticks }
+set_by s = record { table = table_of s.setting; queue = s.queue; ats = map at_of s.ats.items; ticks = s.ticks }
 
 -- The end line was reached.
 abbrev pub over : Stage → Bool
@@ -36,7 +33,7 @@ over Over = true
 abbrev pub late : ℕ → List AtLine → Option Fault
 late ticks [] = None
 late ticks (a ∷ later) =
-    cond (nat_lt a.clock ticks) (late ticks later) (Some (fault 16 SheetLayer (record { line = a.line; byte = a.start })))
+    cond (nat_lt a.clock ticks) (late ticks later) (Some (fault 16 SheetLayer a.place))
 
 -- A sheet whose lines have no fault: its end line must be there, and then no at-line may be late.
 abbrev pub whole : Place → SoFar → Result Set Fault
@@ -47,10 +44,6 @@ whole missing s =
 -- One past the last line, at the text's length.
 abbrev pub missing_line : List ℕ → Place
 missing_line text = record { line = 1 + length (lines first_place text); byte = length text }
-
--- Where a reader stands after its last line.
-abbrev pub end_of : Reader → Place
-end_of r = record { line = r.place.line + length (lines_left r); byte = length r.text.now }
 
 -- A sheet whose lines were judged.
 abbrev pub of_lines : Place → Result SoFar Fault → Result Set Fault

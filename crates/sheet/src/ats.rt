@@ -1,4 +1,4 @@
-use forms::Items;
+use forms::{Items, Place};
 
 // The calls of one at-line, handed out one after the other.
 #[derive(Clone, Copy)]
@@ -6,11 +6,10 @@ pub struct Calls<'a> {
     pub(crate) items: Items<'a>,
 }
 
-// An at-line: its clock, its line, and where it starts and ends in the text.
-#[derive(Clone, Copy)]
-pub struct At {
+// An at-line: its clock, its place, and the part of the text that it is.
+#[derive(Clone, Copy, Default)]
+pub struct At<'a> {
     pub clock: u32,
-    pub line: usize,
-    pub start: usize,
-    pub end: usize,
+    pub place: Place,
+    pub part: &'a [u8],
 }

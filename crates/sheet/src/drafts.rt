@@ -1,6 +1,10 @@
 use crate::ats::At;
+use arrayvec::ArrayVec;
 use forms::QueueName;
 use table::Setting;
+
+// The most at-lines that a sheet may have.
+const MOST_ATS: usize = 256;
 
 // How far a sheet has come: which lines may come next.
 #[derive(Clone, Copy)]
@@ -15,24 +19,18 @@ pub enum Stage {
     Over,
 }
 
-// A sheet that was read: the table, the queue, the at-lines in the order of their lines, which lie in the first `count` of
-// their slots, and the number of ticks.
+// A sheet that was read: the table, the queue, the at-lines in the order of their lines, and the number of ticks.
 #[derive(Drop)]
-pub struct Sheet {
+pub struct Sheet<'a> {
     pub(crate) setting: Setting,
     pub(crate) queue: QueueName,
-    pub(crate) ats: [At; 256],
-    pub(crate) count: usize,
+    pub(crate) ats: ArrayVec<At<'a>, MOST_ATS>,
     pub(crate) ticks: u32,
 }
 
 // A sheet as far as it is read.
 #[derive(Drop)]
-pub(crate) struct Draft {
+pub(crate) struct Draft<'a> {
     pub(crate) stage: Stage,
-    pub(crate) setting: Setting,
-    pub(crate) queue: QueueName,
-    pub(crate) ats: [At; 256],
-    pub(crate) count: usize,
-    pub(crate) ticks: u32,
+    pub(crate) sheet: Sheet<'a>,
 }

@@ -2,7 +2,7 @@
 use forms::{FormsFault, Place};
 use model::Refusal;
 
-#[derive(Clone, Copy)]
+#[derive(Clone, Copy, PartialEq, Eq, Debug)]
 pub enum SheetFault {
     Forms(FormsFault),
     // The line is out of order, or missing.
@@ -11,7 +11,7 @@ pub enum SheetFault {
     TooLong(Place),
 }
 
-#[derive(Clone, Copy)]
+#[derive(Clone, Copy, PartialEq, Eq, Debug)]
 pub enum TableFault {
     Sheet(SheetFault),
     // The duty was refused.

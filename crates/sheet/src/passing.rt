@@ -1,13 +1,14 @@
-// Faults passed on from layer to layer; each keeps its number, line, byte and layer.
-ghost use Rattle.std.specs.Prelude.{◌≡◌};
-ghost use Rattle.model.specs.Refusals.{told};
-ghost use Rattle.forms.specs.Faults.{forms_told};
-ghost use Rattle.sheet.specs.Told.{sheet_told, table_fault, table_told};
+// Faults passed on from layer to layer, and printed; each keeps its number, line, byte and layer.
+ghost use Rattle.std.specs.Prelude.{◌≡◌, Some};
+ghost use Rattle.forms.specs.Faults.{fault_words, forms_told};
+ghost use Rattle.sheet.specs.Told.{sheet_told, table_told};
 
 use crate::faults::{SheetFault, TableFault};
-use forms::{Fault, FormsFault, Layer, Place};
+use forms::{FormsFault, Place};
 use model::Refusal;
+use std::fmt;
 
+// Both by hand: a derived `From` has no `from_gives`, by which clauses name the error that `?` makes.
 impl From<FormsFault> for SheetFault {
     ghost from_gives = { λ e f. sheet_told f ≡ forms_told e };
 
@@ -24,39 +25,78 @@ impl From<SheetFault> for TableFault {
     }
 }
 
-impl From<TableFault> for Fault {
-    ghost from_gives = { λ e f. f ≡ table_told e };
+impl SheetFault {
+    // The number under which the fault is reported.
+    pub fn number(&self) -> u32
+        ensures { result ≡ (sheet_told self.now).number }
+    {
+        match self {
+            SheetFault::Forms(fault) => fault.number(),
+            SheetFault::OutOfOrder(_) => 16,
+            SheetFault::TooLong(_) => 17,
+        }
+    }
 
-    fn from(e: TableFault) -> Fault {
-        match e {
-            TableFault::Sheet(f) => of_sheet(f),
-            TableFault::Refused(place, why) => of_table(place, why),
+    // Where the fault was found.
+    pub fn place(&self) -> Place
+        ensures line { result.line ≡ (sheet_told self.now).line }
+        ensures byte { result.byte ≡ (sheet_told self.now).byte }
+    {
+        match self {
+            SheetFault::Forms(fault) => fault.place(),
+            SheetFault::OutOfOrder(place) | SheetFault::TooLong(place) => *place,
         }
     }
 }
 
-fn of_sheet(e: SheetFault) -> Fault
-    ensures { result ≡ sheet_told e }
-{
-    match e {
-        SheetFault::Forms(f) => f.report(),
-        SheetFault::OutOfOrder(place) => Fault::new(16, Layer::Sheet, place),
-        SheetFault::TooLong(place) => Fault::new(17, Layer::Sheet, place),
+impl TableFault {
+    // The number under which the fault is reported.
+    pub fn number(&self) -> u32
+        ensures { result ≡ (table_told self.now).number }
+    {
+        match self {
+            TableFault::Sheet(fault) => fault.number(),
+            TableFault::Refused(_, why) => why.number(),
+        }
+    }
+
+    // Where the fault was found.
+    pub fn place(&self) -> Place
+        ensures line { result.line ≡ (table_told self.now).line }
+        ensures byte { result.byte ≡ (table_told self.now).byte }
+    {
+        match self {
+            TableFault::Sheet(fault) => fault.place(),
+            TableFault::Refused(place, _) => *place,
+        }
     }
 }
 
-fn of_table(place: Place, why: Refusal) -> Fault
-    ensures { result ≡ table_fault place (told why) }
-{
-    let row = match why {
-        Refusal::Unschedulable(row) => Some(row),
-        _ => None,
-    };
-    Fault {
-        number: why.number(),
-        line: place.line,
-        byte: place.byte,
-        layer: Layer::Table,
-        row,
+impl fmt::Display for SheetFault {
+    ghost output = { λ fault. Some (fault_words (sheet_told fault)) };
+
+    fn fmt<W: fmt::Write>(&self, f: &mut fmt::Formatter<W>) -> fmt::Result {
+        match self {
+            SheetFault::Forms(fault) => write!(f, "{fault}"),
+            SheetFault::OutOfOrder(place) => write!(f, "(fault 16 {place} sheet)"),
+            SheetFault::TooLong(place) => write!(f, "(fault 17 {place} sheet)"),
+        }
+    }
+}
+
+impl fmt::Display for TableFault {
+    ghost output = { λ fault. Some (fault_words (table_told fault)) };
+
+    fn fmt<W: fmt::Write>(&self, f: &mut fmt::Formatter<W>) -> fmt::Result {
+        match self {
+            TableFault::Sheet(fault) => write!(f, "{fault}"),
+            TableFault::Refused(place, Refusal::Unschedulable(row)) => {
+                write!(f, "(fault 4 {place} table {row})")
+            }
+            TableFault::Refused(place, why) => {
+                let number = why.number();
+                write!(f, "(fault {number} {place} table)")
+            }
+        }
     }
 }

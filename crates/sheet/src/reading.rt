@@ -1,65 +1,50 @@
 // Whole sheets: the lines of a text enter a draft one after the other, and a draft with all its lines is a sheet.
-ghost use Rattle.std.specs.Prelude.{◌≡◌, ◌+◌, length, take};
+ghost use Rattle.std.specs.Prelude.{◌≡◌, map};
 ghost use Rattle.forms.specs.Faults.{failing};
-ghost use Rattle.sheet.specs.Told.{sheet_told, table_told};
 ghost use Rattle.forms.specs.Lines.{lines_left};
-ghost use Rattle.sheet.specs.Orders.{lines_judged, nothing_read, so_far};
+ghost use Rattle.sheet.specs.Ats.{at_of};
 ghost use Rattle.sheet.specs.Laws.{SheetsHold};
-ghost use Rattle.sheet.specs.Sheets.{end_of, late, of_lines, outcome, sheet_of, too_long, whole};
+ghost use Rattle.sheet.specs.Orders.{drafted, lines_judged, nothing_read, so_far};
+ghost use Rattle.sheet.specs.Sheets.{late, missing_line, outcome, sheet_of, too_long, whole};
+ghost use Rattle.sheet.specs.Told.{sheet_told, table_told};
 
 use crate::ats::At;
 use crate::drafts::{Draft, Sheet, Stage};
 use crate::faults::{SheetFault, TableFault};
-use forms::{Fault, Place, Reader};
+use forms::{Place, Reader};
 
 // The longest text that is read.
 const LONGEST: usize = 32768;
 
-// The at-lines in their slots.
-pub(crate) fn held(ats: &[At; 256], count: usize) -> &[At]
-    ensures { result.now ≡ take count ats.now }
-{
-    &ats[0..count.min(256)]
-}
-
 // No at-line is late: each comes before the end.
 fn on_time(ats: &[At], ticks: u32) -> Result<(), SheetFault>
-    ensures { failing sheet_told result ≡ late ticks ats.now }
+    ensures { failing sheet_told result ≡ late ticks (map at_of ats.now) }
 {
-    for at in ats {
-        if at.clock >= ticks {
-            return Err(SheetFault::OutOfOrder(Place {
-                line: at.line,
-                byte: at.start,
-            }));
-        }
+    match ats.iter().find(|at| at.clock >= ticks) {
+        None => Ok(()),
+        Some(at) => Err(SheetFault::OutOfOrder(at.place)),
     }
-    Ok(())
 }
 
-// The sheet that a draft has become once all lines were read; the end line may be missing.
-fn finished(draft: Draft, missing: Place) -> Result<Sheet, SheetFault>
-    ensures { outcome sheet_told result ≡ whole missing (so_far draft) }
+// One past the last line, at the text's length.
+fn missing_line(text: &[u8]) -> Place
+    ensures { result ≡ missing_line text.now }
 {
-    let Draft {
-        stage,
-        setting,
-        queue,
-        ats,
-        count,
-        ticks,
-    } = draft;
-    let Stage::Over = stage else {
-        return Err(SheetFault::OutOfOrder(missing));
+    Place {
+        line: 1 + Reader::new(text).count(),
+        byte: text.len(),
+    }
+}
+
+// The sheet that a draft has become once all lines of its text were read; the end line may be missing.
+fn finished<'a>(draft: Draft<'a>, text: &[u8]) -> Result<Sheet<'a>, SheetFault>
+    ensures { outcome sheet_told result ≡ whole (missing_line text.now) (so_far draft.entry) }
+{
+    let Stage::Over = draft.stage else {
+        return Err(SheetFault::OutOfOrder(missing_line(text)));
     };
-    on_time(held(&ats, count), ticks)?;
-    Ok(Sheet {
-        setting,
-        queue,
-        ats,
-        count,
-        ticks,
-    })
+    on_time(draft.sheet.ats(), draft.sheet.ticks())?;
+    Ok(draft.sheet)
 }
 
 // The text is not too long.
@@ -73,37 +58,27 @@ fn short(text: &[u8]) -> Result<(), SheetFault>
     }
 }
 
-// Every line that the reader hands out enters a draft, and the draft is finished.
-fn read_lines(mut reader: Reader) -> Result<Sheet, TableFault>
-    ensures { outcome table_told result ≡ of_lines (end_of reader.entry) (lines_judged nothing_read (lines_left reader.entry)) }
+// The draft that every line has entered, or the fault of the first that does not.
+fn entered<'a>(lines: Reader<'a>) -> Result<Draft<'a>, TableFault>
+    ensures { drafted table_told result ≡ lines_judged nothing_read (lines_left lines.entry) }
 {
     let mut draft = Draft::new();
-    while let Some(line) = reader.next() {
+    for line in lines {
         draft.enter(line)?;
     }
-    let sheet = finished(draft, reader.place())?;
-    Ok(sheet)
+    Ok(draft)
 }
 
 // The sheet that a text is, or its fault.
-fn read_text(text: &[u8]) -> Result<Sheet, TableFault>
+pub fn read<'a>(text: &'a [u8]) -> Result<Sheet<'a>, TableFault>
     ensures { outcome table_told result ≡ sheet_of text.now }
 {
     short(text)?;
-    read_lines(Reader::new(text))
-}
-
-// The sheet that a text is, or its fault as it is reported.
-pub fn read(text: &[u8]) -> Result<Sheet, Fault>
-    ensures { outcome (λ f. f) result ≡ sheet_of text.now }
-{
-    let sheet = read_text(text)?;
-    Ok(sheet)
+    let draft = entered(Reader::new(text))?;
+    Ok(finished(draft, text)?)
 }
 
 // In every sheet that is read, each at-line has calls, all of which are handed out, and comes before the end.
-pub fn sheets_hold() -> u8
+pub fn sheets_hold()
     ensures { SheetsHold }
-{
-    0
-}
+{}

@@ -1,48 +1,46 @@
 // What a sheet sets, and the calls of its at-lines.
-ghost use Rattle.std.specs.Prelude.{◌≡◌};
+ghost use Rattle.std.specs.Prelude.{◌≡◌, map};
+ghost use Rattle.std.specs.Iterator.{item_count, YieldsFirst};
 ghost use Rattle.table.specs.Settings.{table_of};
-ghost use Rattle.sheet.specs.Ats.{at_part, calls_left, calls_of, NextCall};
+ghost use Rattle.sheet.specs.Ats.{at_of, calls_left, calls_of};
 ghost use Rattle.sheet.specs.Sheets.{set_by};
 
 use crate::ats::{At, Calls};
 use crate::drafts::Sheet;
-use crate::reading::held;
 use forms::{Items, QueueName, call};
 use model::Call;
 use table::Setting;
 
-// The part of a text in which an at-line stands.
-fn at_part(text: &[u8], at: At) -> &[u8]
-    ensures { result.now ≡ at_part text.now at }
-{
-    let end = at.end.min(text.len());
-    let start = at.start.min(end);
-    &text[start..end]
-}
-
-impl<'a> Calls<'a> {
-    // The calls of an at-line of this text.
-    pub fn new(text: &'a [u8], at: At) -> Calls<'a>
-        ensures { calls_left result ≡ calls_of text.now at }
+impl<'a> At<'a> {
+    // The calls of the at-line.
+    pub fn calls(&self) -> Calls<'a>
+        ensures { calls_left result ≡ calls_of (at_of self.now) }
     {
-        let mut items = Items::new(at_part(text, at));
+        let mut items = Items::new(self.part);
         // The word and the clock.
         let _ = items.next();
         let _ = items.next();
         Calls { items }
     }
+}
 
-    // The next call.
-    pub fn next(&mut self) -> Option<Call>
-        ensures { NextCall (calls_left self.old) result (calls_left self.new) }
-    {
-        let items = &mut self.items;
-        let item = items.next()?;
-        call(item)
+impl<'a> Iterator for Calls<'a> {
+    type Item = Call;
+
+    ghost next_gives = { YieldsFirst calls_left };
+
+    ghost remaining = { item_count calls_left };
+
+    // The next call. An item that is no call is not passed over, so behind it there is none.
+    fn next(&mut self) -> Option<Call> {
+        let mut items = self.items;
+        let call = call(items.next()?)?;
+        self.items = items;
+        Some(call)
     }
 }
 
-impl Sheet {
+impl<'a> Sheet<'a> {
     // The table, for its rows and response times.
     pub fn setting(&self) -> &Setting
         ensures { table_of result.now ≡ (set_by self.now).table }
@@ -52,16 +50,9 @@ impl Sheet {
 
     // The table, to start a dispatcher with.
     pub fn into_setting(self) -> Setting
-        ensures { table_of result ≡ (set_by self).table }
+        ensures { table_of result ≡ (set_by self.entry).table }
     {
-        let Sheet {
-            setting,
-            queue: _,
-            ats: _,
-            count: _,
-            ticks: _,
-        } = self;
-        setting
+        self.setting
     }
 
     // The queue in which errands wait.
@@ -72,10 +63,10 @@ impl Sheet {
     }
 
     // The at-lines, in the order of their lines.
-    pub fn ats(&self) -> &[At]
-        ensures { result.now ≡ (set_by self.now).ats }
+    pub fn ats(&self) -> &[At<'a>]
+        ensures { map at_of result.now ≡ (set_by self.now).ats }
     {
-        held(&self.ats, self.count)
+        self.ats.as_slice()
     }
 
     // The number of ticks.

@@ -3,7 +3,7 @@
 #![tactic(auto)]
 
 use dispatcher::Dispatcher;
-use model::{Duty, Errand, Refusal, Who};
+use model::{Duty, Errand, Refusal};
 use queue::{FirstCome, Queue, Slot};
 use std::io;
 use table::Setting;
@@ -28,13 +28,8 @@ fn three() -> Result<Setting, Refusal> {
 // One tick, printed.
 fn tick<Q: Queue>(rt: &HostRuntime, dispatcher: &mut Dispatcher<Q>) -> io::Result<()> {
     match dispatcher.tick() {
-        Ok((slack, Who::Nobody)) => println!(rt; "slack {slack}, nobody"),
-        Ok((slack, Who::Duty(row))) => println!(rt; "slack {slack}, duty {row}"),
-        Ok((slack, Who::Errand(number))) => println!(rt; "slack {slack}, errand {number}"),
-        Err(why) => {
-            let number = why.number();
-            println!(rt; "refused {number}")
-        }
+        Ok((slack, who)) => println!(rt; "slack {slack}, {who}"),
+        Err(why) => println!(rt; "refused {}", why.number()),
     }
 }
 
@@ -42,15 +37,13 @@ fn tick<Q: Queue>(rt: &HostRuntime, dispatcher: &mut Dispatcher<Q>) -> io::Resul
 fn told(rt: &HostRuntime, word: &str, answer: Result<(), Refusal>) -> io::Result<()> {
     match answer {
         Ok(()) => println!(rt; "{word} accepted"),
-        Err(why) => {
-            let number = why.number();
-            println!(rt; "{word} refused {number}")
-        }
+        Err(why) => println!(rt; "{word} refused {}", why.number()),
     }
 }
 
-fn drive<Q: Queue + Drop>(rt: &HostRuntime, setting: Setting, queue: Q) -> io::Result<()> {
-    let mut dispatcher = Dispatcher::start(setting, queue);
+fn drive(rt: &HostRuntime, setting: Setting) -> io::Result<()> {
+    let mut slots = [Slot::free(); 4];
+    let mut dispatcher = Dispatcher::start(setting, FirstCome::new(&mut slots));
     tick(rt, &mut dispatcher)?;
     told(rt, "release 0", dispatcher.release(0))?;
     told(rt, "release 0", dispatcher.release(0))?;
@@ -63,8 +56,7 @@ fn drive<Q: Queue + Drop>(rt: &HostRuntime, setting: Setting, queue: Q) -> io::R
     };
     told(rt, "request 7", dispatcher.request(errand))?;
     told(rt, "request 7", dispatcher.request(errand))?;
-    let slack = dispatcher.slack();
-    println!(rt; "slack {slack}")?;
+    println!(rt; "slack {}", dispatcher.slack())?;
     tick(rt, &mut dispatcher)?;
     match dispatcher.withdraw(7) {
         Ok(units) => println!(rt; "withdraw 7 had {units}")?,
@@ -79,21 +71,17 @@ fn responses(rt: &HostRuntime, setting: &Setting) -> io::Result<()> {
     for row in 0..4 {
         match setting.response(row) {
             Ok(ticks) => println!(rt; "response {row} is {ticks}")?,
-            Err(why) => {
-                let number = why.number();
-                println!(rt; "response {row} refused {number}")?;
-            }
+            Err(why) => println!(rt; "response {row} refused {}", why.number())?,
         }
     }
     Ok(())
 }
 
 fn main(rt: HostRuntime) -> io::Result<()> {
-    let mut slots = [Slot::free(); 4];
     match three() {
         Ok(setting) => {
             responses(&rt, &setting)?;
-            drive(&rt, setting, FirstCome::new(&mut slots))
+            drive(&rt, setting)
         }
         Err(_) => println!(rt; "the table was refused"),
     }

@@ -1,35 +1,21 @@
--- The cases of an insertion, one for each refusal and one for none, and that an accepted one leaves an admitted
--- table.
-use Rattle.std.proofs.Common.{◌≡◌, ℕ, zero, suc, ◌<◌, ◌≤◌, true, false, not, List, [], ◌∷◌, ◌++◌, length, take, drop, refl, ap, ◌∙◌}
-use Rattle.std.specs.List.{insert}
-use Rattle.std.proofs.lemmas.Bool.{and_from, and_parts, cond-false, cond-true, le-leb, le-ltb, lt-leb, lt-ltb}
+-- An insertion that is left to the analysis: what refuses it, what it leaves, and that its duties keep their limits.
+use Rattle.std.proofs.Common.{◌≡◌, ℕ, zero, suc, ◌<◌, ◌≤◌, true, not, List, [], ◌∷◌, ◌++◌, length, take, drop, refl, ap, ◌∙◌, arith}
+use Rattle.std.specs.List.{insert, remove}
+use Rattle.std.proofs.lemmas.Bool.{and_from, and_parts, cond-false, le-ltb, lt-leb}
 use Rattle.model.specs.Table.{add_refusal, after_add, all_within, first_late, unschedulable, within_limits}
 use Rattle.model.specs.declared.duties.Duty.{Duty}
 use Rattle.table.proofs.Limits.{within_take}
 
 module _ (table : List Duty) (place : ℕ) (d : Duty) where
-  -- A refused insertion leaves the table, an accepted one the table with the duty in it.
+  -- A refused insertion leaves the table.
   pub refused_leaves : (n : ℕ) (ns : List ℕ) → add_refusal table place d ≡ n ∷ ns → after_add table place d ≡ table
   refused_leaves n ns e = rw (e, after_add)
 
-  pub accepted_leaves : add_refusal table place d ≡ [] → after_add table place d ≡ insert table place d
-  accepted_leaves e = rw (e, after_add)
-
-  pub refused_place : length table < place → add_refusal table place d ≡ 1 ∷ []
-  refused_place far = cond-true _ _ _ (lt-ltb _ _ far)
-
-  module _ (near : place ≤ length table) where
-    pub refused_limits : within_limits d ≡ false → add_refusal table place d ≡ 2 ∷ []
-    refused_limits broken = cond-false _ _ _ (le-ltb _ _ near) ∙ cond-true _ _ _ (ap not broken)
-
-    module _ (good : within_limits d ≡ true) where
-      pub refused_full : 16 ≤ length table → add_refusal table place d ≡ 3 ∷ []
-      refused_full full =
-          cond-false _ _ _ (le-ltb _ _ near) ∙ cond-false _ _ _ (ap not good) ∙ cond-true _ _ _ (le-leb _ _ full)
-
-      pub by_analysis : length table < 16 → add_refusal table place d ≡ unschedulable (first_late (insert table place d))
-      by_analysis room =
-          cond-false _ _ _ (le-ltb _ _ near) ∙ cond-false _ _ _ (ap not good) ∙ cond-false _ _ _ (lt-leb _ _ room)
+  -- Where the place, the duty and the room are good, the analysis decides.
+  pub by_analysis : place ≤ length table → within_limits d ≡ true → length table < 16
+      → add_refusal table place d ≡ unschedulable (first_late (insert table place d))
+  by_analysis near good room =
+      cond-false _ _ _ (le-ltb _ _ near) ∙ cond-false _ _ _ (ap not good) ∙ cond-false _ _ _ (lt-leb _ _ room)
 
 -- Limits are kept by what is left of a table, by joining two, and so by an insertion.
 within_drop : (n : ℕ) (ds : List Duty) → all_within ds ≡ true → all_within (drop n ds) ≡ true
@@ -48,3 +34,14 @@ pub within_inserted : (table : List Duty) (place : ℕ) (d : Duty)
 within_inserted table place d h good =
     within_append (take place table) (d ∷ drop place table) (within_take place table h)
     (and_from _ _ good (within_drop place table h))
+
+-- A duty that was inserted and taken out again leaves the table as it was.
+remove_inserted : (table : List Duty) (place : ℕ) (d : Duty) → place ≤ length table → remove (insert table place d) place ≡ table
+remove_inserted table zero d le = refl
+remove_inserted [] (suc place) d le = absurd (omega arith)
+remove_inserted (duty ∷ table) (suc place) d le = ap (λ ds. duty ∷ ds) (remove_inserted table place d (omega arith))
+
+pub taken_out : (table grown left : List Duty) (place : ℕ) (d : Duty) → place ≤ length table
+    → grown ≡ insert table place d → left ≡ remove grown place → left ≡ table
+taken_out table grown left place d le put out =
+    out ∙ ap (λ (ds : List Duty). remove ds place) put ∙ remove_inserted table place d le

@@ -1,2 +1,4 @@
 pub mod Admission
+pub mod DivCeil
+pub mod Least
 pub mod Limits

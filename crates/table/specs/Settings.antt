@@ -1,5 +1,5 @@
 -- What a setting holds.
-use Rattle.std.specs.Prelude.{◌≡◌, ℕ, ◌≤◌, List, [], ◌∷◌, length, take, Some, Ok, Err, Result}
+use Rattle.std.specs.Prelude.{◌≡◌, ℕ, ◌≤◌, List, [], ◌∷◌, length, Some, Ok, Err, Result}
 use Rattle.model.specs.Refusals.{told}
 use Rattle.model.specs.Table.{response}
 use Rattle.model.specs.declared.duties.Duty.{Duty}
@@ -8,7 +8,7 @@ use Rattle.table.specs.declared.settings.Setting.{Setting}
 
 -- The table of a setting: its duties, row 0 first.
 abbrev pub table_of : Setting → List Duty
-table_of s = take s.len s.duties
+table_of s = s.duties.items
 
 -- The response time of a row: the defined one, or 1 where there is no such row.
 abbrev pub Responds : List Duty → ℕ → Result ℕ Refusal → Type 0

@@ -1,16 +1,13 @@
 // Settings: made empty, grown by one duty at a time, and asked for response times.
-ghost use Rattle.std.specs.Prelude.{◌≡◌, ◌+◌, ◌<◌, ◌≤◌, [], take};
-ghost use Rattle.std.specs.List.{insert};
+ghost use Rattle.std.specs.Prelude.{◌≡◌, []};
 ghost use Rattle.model.specs.Refusals.{refusal};
 ghost use Rattle.model.specs.Table.{add_refusal, after_add, within_limits};
 ghost use Rattle.table.specs.Settings.{Responds, table_of};
 
-use crate::analysis::{first_late, response_time};
+use crate::analysis::Analysis;
 use crate::settings::Setting;
+use arrayvec::ArrayVec;
 use model::{Duty, Refusal};
-
-// A table has at most so many rows.
-const MOST_ROWS: usize = 16;
 
 // 1 ≤ cost ≤ deadline ≤ separation ≤ 4,096.
 fn within_limits(duty: Duty) -> bool
@@ -22,30 +19,13 @@ fn within_limits(duty: Duty) -> bool
         && duty.separation <= 4096
 }
 
-// The slots with the duty at its place and those from there on moved down one.
-fn with_duty(duties: &[Duty; 16], len: usize, place: usize, duty: Duty) -> [Duty; 16]
-    requires { (len < 16) × (place ≤ len) }
-    ensures { take (len + 1) result ≡ insert (take len duties.now) place duty }
-{
-    let mut moved = *duties;
-    moved.copy_within(place..len, place + 1);
-    moved[place] = duty;
-    moved
-}
-
 impl Setting {
     // A setting with no rows.
     pub fn new() -> Setting
         ensures { table_of result ≡ [] }
     {
-        let none = Duty {
-            cost: 0,
-            deadline: 0,
-            separation: 0,
-        };
         Setting {
-            duties: [none; 16],
-            len: 0,
+            duties: ArrayVec::new(),
         }
     }
 
@@ -53,7 +33,7 @@ impl Setting {
     pub fn rows(&self) -> &[Duty]
         ensures { result.now ≡ table_of self.now }
     {
-        &self.duties[0..self.len]
+        self.duties.as_slice()
     }
 
     // Adds a duty at a place; the rows from there on move down one. A refusal changes nothing.
@@ -61,35 +41,34 @@ impl Setting {
         ensures answers { refusal result ≡ add_refusal (table_of self.old) place duty }
         ensures leaves { table_of self.new ≡ after_add (table_of self.old) place duty }
     {
-        let len = self.len;
         let place = place as usize;
-        if place > len {
+        if place > self.duties.len() {
             return Err(Refusal::NoSuchRow);
         }
         if !within_limits(duty) {
             return Err(Refusal::DutyLimits);
         }
-        if len >= MOST_ROWS {
+        if self.duties.is_full() {
             return Err(Refusal::TableFull);
         }
-        let duties = with_duty(&self.duties, len, place, duty);
-        if let Some(row) = first_late(&duties[0..len + 1]) {
+        self.duties.insert(place, duty);
+        let grown = Analysis {
+            duties: &self.duties,
+        };
+        if let Some(row) = grown.first_late() {
+            self.duties.remove(place);
             return Err(Refusal::Unschedulable(row));
         }
-        self.duties = duties;
-        self.len = len + 1;
         Ok(())
     }
 
-    // The response time of a row.
+    // The response time of a row. Only a row that is not there has none.
     pub fn response(&self, row: u32) -> Result<u32, Refusal>
         ensures { Responds (table_of self.now) row result }
     {
-        let row = row as usize;
-        if row >= self.len {
-            return Err(Refusal::NoSuchRow);
-        }
-        // No row of a setting lacks one.
-        Ok(response_time(self.rows(), row).unwrap())
+        let table = Analysis {
+            duties: self.rows(),
+        };
+        table.response_time(row as usize).ok_or(Refusal::NoSuchRow)
     }
 }

@@ -1,60 +1,53 @@
 // Response-time analysis of a table whose duties are within their limits.
-ghost use Rattle.std.specs.Prelude.{◌≡◌, ◌+◌, ◌<◌, ◌≤◌, true, length};
-ghost use Rattle.model.specs.Table.{busy, ceil, response, first_late, all_within, suffices};
+ghost use Rattle.std.specs.Prelude.{◌≡◌, ◌<◌, ◌≤◌, true, length};
+ghost use Rattle.model.specs.Table.{busy, response, first_late, all_within, suffices};
 
 use model::Duty;
 
-// `ticks` ÷ `by`, rounded up.
-fn ceil(ticks: u32, by: u32) -> u32
-    requires { (1 ≤ by) × ((by ≤ 4096) × (ticks ≤ 4096)) }
-    ensures { result ≡ ceil ticks by }
-{
-    (ticks + (by - 1)) / by
+// The duties of a table, to be analysed.
+#[derive(Clone, Copy)]
+pub(crate) struct Analysis<'a> {
+    pub duties: &'a [Duty],
+    ghost within: { all_within duties.now ≡ true },
+    ghost few: { length duties.now ≤ 16 },
 }
 
-// What the rows can ask of the processor in `ticks` ticks that begin with a job of each.
-fn busy(rows: &[Duty], ticks: u32) -> u32
-    requires { (all_within rows.now ≡ true) × ((length rows.now ≤ 16) × (ticks ≤ 4096)) }
-    ensures { result ≡ busy rows.now ticks }
-{
-    let mut sum = 0;
-    for duty in rows {
-        sum += duty.cost * ceil(ticks, duty.separation);
-    }
-    sum
-}
-
-// `ticks` ticks suffice for rows 0 to `row`.
-fn suffices(table: &[Duty], row: usize, ticks: u32) -> bool
-    requires { (all_within table.now ≡ true) × ((length table.now ≤ 16) × ((row < length table.now) × (ticks ≤ 4096))) }
-    ensures { result ≡ suffices table.now row ticks }
-{
-    busy(&table[0..row + 1], ticks) <= ticks
-}
-
-// The response time of a row, sought by trying each number of ticks from 1 on.
-pub(crate) fn response_time(table: &[Duty], row: usize) -> Option<u32>
-    requires { (all_within table.now ≡ true) × ((length table.now ≤ 16) × (row < length table.now)) }
-    ensures { result ≡ response table.now row }
-{
-    let deadline = table[row].deadline;
-    for ticks in 1..=deadline {
-        if suffices(table, row, ticks) {
-            return Some(ticks);
+impl Analysis<'_> {
+    // What the rows can ask of the processor in `ticks` ticks that begin with a job of each.
+    fn busy(&self, ticks: u32) -> u64
+        ensures { result ≡ busy self.now.duties.now ticks }
+    {
+        // A loop, since a closure could not know that no separation is 0.
+        let mut sum = 0;
+        for duty in self.duties {
+            sum += u64::from(duty.cost) * u64::from(ticks.div_ceil(duty.separation));
         }
+        sum
     }
-    None
-}
 
-// The smallest row that has no response time.
-pub(crate) fn first_late(table: &[Duty]) -> Option<u32>
-    requires { (all_within table.now ≡ true) × (length table.now ≤ 16) }
-    ensures { result ≡ first_late table.now }
-{
-    for row in 0..table.len() {
-        if response_time(table, row).is_none() {
-            return Some(row as u32);
-        }
+    // `ticks` ticks suffice for rows 0 to `row`.
+    fn suffices(&self, row: usize, ticks: u32) -> bool
+        requires { row < length self.now.duties.now }
+        ensures { result ≡ suffices self.now.duties.now row ticks }
+    {
+        let rows = Analysis {
+            duties: &self.duties[..=row],
+        };
+        rows.busy(ticks) <= u64::from(ticks)
     }
-    None
+
+    // The response time of a row, sought by trying each number of ticks from 1 on.
+    pub fn response_time(&self, row: usize) -> Option<u32>
+        ensures { result ≡ response self.now.duties.now row }
+    {
+        let deadline = self.duties.get(row)?.deadline;
+        (1..=deadline).find(|&ticks| self.suffices(row, ticks))
+    }
+
+    // The smallest row that has no response time.
+    pub fn first_late(&self) -> Option<u32>
+        ensures { result ≡ first_late self.now.duties.now }
+    {
+        (0..self.duties.len() as u32).find(|&row| self.response_time(row as usize).is_none())
+    }
 }

@@ -5,4 +5,4 @@ mod adding;
 mod analysis;
 mod settings;
 
-pub use settings::Setting;
+pub use settings::{MOST_ROWS, Setting};

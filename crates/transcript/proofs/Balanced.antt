@@ -1,5 +1,5 @@
 -- What a run of a sheet leaves waiting is what was accepted, and neither served nor withdrawn.
-use Rattle.std.proofs.Common.{◌≡◌, ℕ, ◌+◌, ◌≤◌, List, [], ◌∷◌, ◌++◌, length, Option, refl, ap, ◌∙◌, arith}
+use Rattle.std.proofs.Common.{◌≡◌, ℕ, ◌+◌, List, [], ◌∷◌, ◌++◌, length, Option, refl, ap, ◌∙◌, arith}
 use Rattle.dispatcher.specs.Scripts.{calls_of, trace_of}
 use Rattle.dispatcher.specs.declared.entries.Entry.{Entry}
 use Rattle.model.proofs.Totals.{totals_balance}
@@ -29,9 +29,6 @@ module _ (table : List Duty) (trace : Trace) (end : State) (ran : Ran table trac
   balance : total_accepted trace ≡ total_served trace + total_withdrawn trace + total_units end.queue.waiting
   balance = omega (arith, totals_balance table ran.start trace end starts_sound ran.promise.follows, ap total_units ran.empty)
 
-  pub accepted_covers : total_served trace + total_withdrawn trace ≤ total_accepted trace
-  accepted_covers = omega (arith, balance)
-
   pub left_over_waits : left_over trace ≡ total_units end.queue.waiting
   left_over_waits = omega (arith, balance)
 
@@ -40,14 +37,14 @@ called_script [] = refl
 called_script (e ∷ es) = ap (λ (cs : List Call). e.call ∷ cs) (called_script es)
 
 -- The parts of a transcript, put together.
-pub transcript_of : (text : List ℕ) (s : Set) (script : List Entry) (end : State) (start duties out : List ℕ)
+pub transcript_of : (s : Set) (script : List Entry) (end : State) (start duties out : List ℕ)
     → Ran s.table (trace_of script) end
-    → calls_of script ≡ script_of text s.ats s.ticks
+    → calls_of script ≡ script_of s.ats s.ticks
     → start ≡ []
     → duties ≡ start ++ duty_lines s.table (length s.table)
     → out ≡ duties ++ run_lines (trace_of script) (left_over (trace_of script))
-    → Transcript text s out
-transcript_of text s script end start duties out ran calls nothing rows run =
+    → Transcript s out
+transcript_of s script end start duties out ran calls nothing rows run =
     record {
       trace = trace_of script;
       end = end;

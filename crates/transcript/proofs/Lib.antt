@@ -3,4 +3,3 @@ pub mod Clocks
 pub mod Growing
 pub mod Inserting
 pub mod Rendered
-pub mod Scheduled

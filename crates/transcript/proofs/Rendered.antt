@@ -1,18 +1,17 @@
 -- A text that grows line by line.
-use Rattle.std.proofs.Common.{◌≡◌, ℕ, ◌+◌, ◌-◌, ◌<◌, ◌≤◌, List, ◌++◌, length, get_or, drop, Some, Option, unwrap_or, sym, ap, ◌∙◌, add-one, arith}
+use Rattle.std.proofs.Common.{◌≡◌, ℕ, ◌+◌, ◌<◌, ◌≤◌, List, ◌++◌, length, get_or, drop, Some, Option, unwrap_or, sym, ap, ◌∙◌, add-one, arith}
 use Rattle.std.proofs.lemmas.List.{append_assoc, append-nil, at_drop_all, at_drop_more}
 use Rattle.dispatcher.specs.Scripts.{trace_of}
 use Rattle.dispatcher.specs.declared.entries.Entry.{Entry}
-use Rattle.model.specs.Runs.{Trace, anyone, of_tick, total}
+use Rattle.model.specs.Runs.{anyone, of_tick, total}
 use Rattle.model.specs.Table.{response}
-use Rattle.model.specs.Totals.{total_accepted, total_served, total_withdrawn}
 use Rattle.model.specs.declared.calls.Answer.{Answer}
 use Rattle.model.specs.declared.calls.Answer.TheVariants.{Accepted, Withdrawn, Slack, Ticked, Refused}
 use Rattle.model.specs.declared.calls.Call.{Call}
 use Rattle.model.specs.declared.calls.Call.TheVariants.{Release}
 use Rattle.model.specs.declared.duties.Duty.{Duty}
-use Rattle.transcript.specs.Lines.{duty_line, event_line, totals_line}
-use Rattle.transcript.specs.Renderings.{duty_lines, event_lines, left_over, run_lines}
+use Rattle.transcript.specs.Lines.{duty_line, event_line}
+use Rattle.transcript.specs.Renderings.{duty_lines, event_lines}
 
 -- One row more.
 pub duty_more : (table : List Duty) (row w : ℕ) (start before after : List ℕ)
@@ -61,19 +60,3 @@ module _ (script : List Entry) (i : ℕ) where
 
   pub total_all : (f : Call → Answer → ℕ) → length script ≤ i → total f (trace_of (drop i script)) ≡ 0
   total_all f long = at_drop_all (λ (es : List Entry). total f (trace_of es)) script i long
-
--- The totals behind what happened.
-pub totals_behind : (trace : Trace) (accepted served withdrawn waiting : ℕ) (start middle end : List ℕ)
-    → accepted ≡ total_accepted trace
-    → served ≡ total_served trace
-    → withdrawn ≡ total_withdrawn trace
-    → waiting ≡ accepted - served - withdrawn
-    → middle ≡ start ++ event_lines 0 trace
-    → end ≡ middle ++ totals_line accepted served withdrawn waiting
-    → end ≡ start ++ run_lines trace (left_over trace)
-totals_behind trace accepted served withdrawn waiting start middle end is-accepted is-served is-withdrawn is-waiting events totals =
-    let line : totals_line accepted served withdrawn waiting ≡ totals_line (total_accepted trace) (total_served trace) (total_withdrawn trace) (left_over trace) = cc in
-    totals
-    ∙ ap (λ (bs : List ℕ). bs ++ totals_line accepted served withdrawn waiting) events
-    ∙ append_assoc start (event_lines 0 trace) (totals_line accepted served withdrawn waiting)
-    ∙ ap (λ (bs : List ℕ). start ++ (event_lines 0 trace ++ bs)) line

@@ -1,15 +1,13 @@
 -- The lines of a transcript, as bytes. Each ends with byte 10.
-use Rattle.std.specs.Prelude.{ℕ, List, [], ◌++◌, Some, None, codes, decimal, Option, slice_index}
+use Rattle.std.specs.Prelude.{ℕ, List, [], ◌++◌, codes, decimal, slice_index}
 use Rattle.model.specs.Refusals.{told}
+use Rattle.model.specs.Words.{had_by}
 use Rattle.model.specs.declared.calls.Answer.{Answer}
 use Rattle.model.specs.declared.calls.Answer.TheVariants.{Accepted, Withdrawn, Slack as SlackIs, Ticked, Refused}
 use Rattle.model.specs.declared.calls.Call.{Call}
 use Rattle.model.specs.declared.calls.Call.TheVariants.{Release, Done, Request, Withdraw, Slack, Tick}
 use Rattle.model.specs.declared.calls.Who.{Who}
-use Rattle.model.specs.declared.calls.Who.TheVariants.{Nobody, Duty, Errand}
-use Rattle.forms.specs.declared.faults.Fault.{Fault}
-use Rattle.forms.specs.declared.faults.Layer.{Layer}
-use Rattle.forms.specs.declared.faults.Layer.TheVariants.{Letters, Forms, Sheet, Table}
+use Rattle.forms.specs.Faults.{Fault, fault_words}
 
 -- `(duty ROW response W)`
 abbrev pub duty_line : ℕ → ℕ → List ℕ
@@ -30,16 +28,10 @@ refused_line clock number call =
     codes "(refused "
     ++ (decimal clock ++ (codes " " ++ (decimal number ++ (codes " " ++ (call_word call ++ codes ")\n")))))
 
--- The end of a tick's line: who had it.
-abbrev pub behind_slack : Who → List ℕ
-behind_slack Nobody = codes " nobody)\n"
-behind_slack (Duty row) = codes " duty " ++ (decimal row ++ codes ")\n")
-behind_slack (Errand number) = codes " errand " ++ (decimal number ++ codes ")\n")
-
 -- `(tick CLOCK SLACK nobody)`, `(tick CLOCK SLACK duty ROW)`, `(tick CLOCK SLACK errand NUMBER)`
 abbrev pub tick_line : ℕ → ℕ → Who → List ℕ
 tick_line clock slack who =
-    codes "(tick " ++ (decimal clock ++ (codes " " ++ (decimal slack ++ behind_slack who)))
+    codes "(tick " ++ (decimal clock ++ (codes " " ++ (decimal slack ++ (codes " " ++ (had_by who ++ codes ")\n")))))
 
 -- What is printed of a call and its answer at a clock: a refusal or a tick has a line, and what was accepted has none.
 abbrev pub event_line : ℕ → Call → Answer → List ℕ
@@ -50,28 +42,15 @@ event_line clock call (Ticked slack who) = tick_line clock slack who
 event_line clock call (Refused why) = refused_line clock (slice_index (told why) 0) call
 
 -- `(totals ACCEPTED SERVED WITHDRAWN WAITING)`
-abbrev pub totals_line : ℕ → ℕ → ℕ → ℕ → List ℕ
-totals_line accepted served withdrawn waiting =
+abbrev pub totals_words : ℕ → ℕ → ℕ → ℕ → List ℕ
+totals_words accepted served withdrawn waiting =
     codes "(totals "
     ++ (decimal accepted
-    ++ (codes " " ++ (decimal served ++ (codes " " ++ (decimal withdrawn ++ (codes " " ++ (decimal waiting ++ codes ")\n")))))))
+    ++ (codes " " ++ (decimal served ++ (codes " " ++ (decimal withdrawn ++ (codes " " ++ (decimal waiting ++ codes ")")))))))
 
-abbrev pub layer_word : Layer → List ℕ
-layer_word Letters = codes "letters"
-layer_word Forms = codes "forms"
-layer_word Sheet = codes "sheet"
-layer_word Table = codes "table"
-
--- The end of a fault's line: a row, if there is one, stands behind the layer.
-abbrev pub behind_layer : Option ℕ → List ℕ
-behind_layer None = codes ")\n"
-behind_layer (Some row) = codes " " ++ (decimal row ++ codes ")\n")
+abbrev pub totals_line : ℕ → ℕ → ℕ → ℕ → List ℕ
+totals_line accepted served withdrawn waiting = totals_words accepted served withdrawn waiting ++ codes "\n"
 
 -- `(fault NUMBER LINE BYTE LAYER)`, `(fault NUMBER LINE BYTE LAYER ROW)`
 abbrev pub fault_line : Fault → List ℕ
-fault_line f =
-    codes "(fault "
-    ++ (decimal f.number
-    ++ (codes " "
-    ++ (decimal f.line
-    ++ (codes " " ++ (decimal f.byte ++ (codes " " ++ (layer_word f.layer ++ behind_layer f.row)))))))
+fault_line f = fault_words f ++ codes "\n"

@@ -3,21 +3,20 @@ use Rattle.std.specs.Prelude.{ℕ, zero, suc, Bool, List, [], ◌∷◌, ◌++�
 use Rattle.std.specs.List.{flat_map}
 use Rattle.model.specs.declared.calls.Call.{Call}
 use Rattle.model.specs.declared.calls.Call.TheVariants.{Tick}
-use Rattle.sheet.specs.Ats.{calls_of}
-use Rattle.sheet.specs.declared.ats.At.{At}
+use Rattle.sheet.specs.Ats.{AtLine, calls_of}
 
-abbrev pub is_at : ℕ → At → Bool
+abbrev pub is_at : ℕ → AtLine → Bool
 is_at clock a = a.clock == clock
 
 -- The at-lines of a clock: those that name it, in the order of their lines.
-abbrev pub at_lines : ℕ → List At → List At
+abbrev pub at_lines : ℕ → List AtLine → List AtLine
 at_lines clock ats = filter (is_at clock) ats
 
 -- The calls before the tick at a clock: those of its at-lines, line by line.
-abbrev pub calls_before : List ℕ → List At → ℕ → List Call
-calls_before text ats clock = flat_map (calls_of text) (at_lines clock ats)
+abbrev pub calls_before : List AtLine → ℕ → List Call
+calls_before ats clock = flat_map calls_of (at_lines clock ats)
 
 -- The script of the first ticks: at each clock its calls, and then the tick.
-abbrev pub script_of : List ℕ → List At → ℕ → List Call
-script_of text ats zero = []
-script_of text ats (suc clock) = script_of text ats clock ++ (calls_before text ats clock ++ Tick ∷ [])
+abbrev pub script_of : List AtLine → ℕ → List Call
+script_of ats zero = []
+script_of ats (suc clock) = script_of ats clock ++ (calls_before ats clock ++ Tick ∷ [])

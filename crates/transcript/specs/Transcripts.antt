@@ -8,7 +8,7 @@ use Rattle.model.specs.declared.calls.Answer.{Answer}
 use Rattle.model.specs.declared.calls.Call.{Call}
 use Rattle.model.specs.declared.duties.Duty.{Duty}
 use Rattle.sheet.specs.Sheets.{Set, sheet_of}
-use Rattle.forms.specs.declared.faults.Fault.{Fault}
+use Rattle.forms.specs.Faults.{Fault}
 use Rattle.transcript.specs.Lines.{fault_line}
 use Rattle.transcript.specs.Renderings.{rendered}
 use Rattle.transcript.specs.Schedules.{script_of}
@@ -27,17 +27,17 @@ pub record Ran (table : List Duty) (trace : Trace) (end : State) : Type 0 where
   pub promise : Promise table start trace end
 
 -- A text is printed of a sheet: the calls of the sheet's script were run over its table, and this is the run's rendering.
-pub record Transcript (text : List ℕ) (s : Set) (out : List ℕ) : Type 0 where
+pub record Transcript (s : Set) (out : List ℕ) : Type 0 where
   pub trace : Trace
   pub end : State
   pub ran : Ran s.table trace end
-  pub calls : called trace ≡ script_of text s.ats s.ticks
+  pub calls : called trace ≡ script_of s.ats s.ticks
   pub shows : out ≡ rendered s.table trace end
 
-abbrev pub PrintedOf : List ℕ → Result Set Fault → List ℕ → Type 0
-PrintedOf text (Ok s) out = Transcript text s out
-PrintedOf text (Err f) out = out ≡ fault_line f
+abbrev pub PrintedOf : Result Set Fault → List ℕ → Type 0
+PrintedOf (Ok s) out = Transcript s out
+PrintedOf (Err f) out = out ≡ fault_line f
 
 -- What is printed of a text.
 abbrev pub Printed : List ℕ → List ℕ → Type 0
-Printed text out = PrintedOf text (sheet_of text) out
+Printed text out = PrintedOf (sheet_of text) out

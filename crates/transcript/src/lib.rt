@@ -2,13 +2,11 @@
 #![tactic(auto)]
 
 mod arranging;
-mod events;
 mod lines;
 mod running;
 mod scheduling;
-mod stops;
-mod timings;
 mod totals;
 mod transcripts;
+mod upcoming;
 
 pub use transcripts::transcript;

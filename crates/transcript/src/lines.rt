@@ -1,19 +1,17 @@
 // The lines of a transcript, each written behind what a text holds already.
-ghost use Rattle.std.specs.Prelude.{◌≡◌, ◌++◌, string_bytes, OnOk};
-ghost use Rattle.transcript.specs.Lines.{call_word, duty_line, event_line, fault_line, layer_word, refused_line, tick_line, totals_line};
+ghost use Rattle.std.specs.Prelude.{◌≡◌, ◌++◌, length, string_bytes, OnOk};
+ghost use Rattle.model.specs.Runs.{anyone, of_tick};
+ghost use Rattle.table.specs.Settings.{table_of};
+ghost use Rattle.dispatcher.specs.Scripts.{trace_of};
+ghost use Rattle.transcript.specs.Lines.{call_word, event_line};
+ghost use Rattle.transcript.specs.Renderings.{duty_lines, event_lines};
 
-use forms::{Fault, Layer};
-use model::{Answer, Call, Who};
+use dispatcher::Entry;
+use model::{Answer, Call};
 use std::alloc::AllocError;
+use table::Setting;
 
-// The response time of a row.
-pub(crate) fn write_duty(out: &mut String, row: u32, response: u32) -> Result<(), AllocError>
-    ensures { OnOk result (string_bytes out.new ≡ string_bytes out.old ++ duty_line row response) }
-{
-    writeln!(out, "(duty {row} response {response})")
-}
-
-// The word of a call.
+// The word of a call: a `Display` of the whole call would have to print its numbers too.
 fn call_word(call: Call) -> &'static str
     ensures { result.now ≡ call_word call }
 {
@@ -27,79 +25,53 @@ fn call_word(call: Call) -> &'static str
     }
 }
 
-// A call that was refused.
-fn write_refused(out: &mut String, clock: u64, number: u32, call: Call) -> Result<(), AllocError>
-    ensures { OnOk result (string_bytes out.new ≡ string_bytes out.old ++ refused_line clock number call) }
+// A call with its answer: a refusal or a tick has a line, and what was accepted has none. No `Display`, since an entry does not
+// hold its clock.
+fn write_event(out: &mut String, clock: u64, entry: &Entry) -> Result<(), AllocError>
+    ensures { OnOk result (string_bytes out.new ≡ string_bytes out.old ++ event_line clock entry.now.call entry.now.answer) }
 {
-    let word = call_word(call);
-    writeln!(out, "(refused {clock} {number} {word})")
-}
-
-// A tick: the slack before it, and who had it.
-fn write_tick(out: &mut String, clock: u64, slack: u32, who: Who) -> Result<(), AllocError>
-    ensures { OnOk result (string_bytes out.new ≡ string_bytes out.old ++ tick_line clock slack who) }
-{
-    match who {
-        Who::Nobody => writeln!(out, "(tick {clock} {slack} nobody)"),
-        Who::Duty(row) => writeln!(out, "(tick {clock} {slack} duty {row})"),
-        Who::Errand(number) => writeln!(out, "(tick {clock} {slack} errand {number})"),
+    match entry.answer {
+        Answer::Ticked(slack, who) => writeln!(out, "(tick {clock} {slack} {who})"),
+        Answer::Refused(why) => {
+            let number = why.number();
+            let word = call_word(entry.call);
+            writeln!(out, "(refused {clock} {number} {word})")
+        }
+        Answer::Accepted | Answer::Withdrawn(_) | Answer::Slack(_) => Ok(()),
     }
 }
 
-// A call with its answer: a refusal or a tick has a line, and what was accepted has none.
-pub(crate) fn write_event(
-    out: &mut String,
-    clock: u64,
-    call: Call,
-    answer: Answer,
-) -> Result<(), AllocError>
-    ensures { OnOk result (string_bytes out.new ≡ string_bytes out.old ++ event_line clock call answer) }
+// The response time of each row.
+pub(crate) fn write_duties(out: &mut String, setting: &Setting) -> Result<(), AllocError>
+    ensures { OnOk result (string_bytes out.new ≡ string_bytes out.old ++ duty_lines (table_of setting.now) (length (table_of setting.now))) }
+{
+    let rows = setting.rows().len() as u32;
+    for row in 0..rows {
+        // No row of a setting lacks one.
+        let response = setting.response(row).unwrap();
+        writeln!(out, "(duty {row} response {response})")?;
+    }
+    Ok(())
+}
+
+// How far a call moves the clock.
+fn ticks_of(answer: Answer) -> u64
+    ensures { result ≡ of_tick anyone answer }
 {
     match answer {
-        Answer::Ticked(slack, who) => write_tick(out, clock, slack, who),
-        Answer::Refused(why) => write_refused(out, clock, why.number(), call),
-        _ => Ok(()),
+        Answer::Ticked(_, _) => 1,
+        _ => 0,
     }
 }
 
-// What the run took in and gave out, in units.
-pub(crate) fn write_totals(
-    out: &mut String,
-    accepted: u128,
-    served: u128,
-    withdrawn: u128,
-    waiting: u128,
-) -> Result<(), AllocError>
-    ensures { OnOk result (string_bytes out.new ≡ string_bytes out.old ++ totals_line accepted served withdrawn waiting) }
+// What happened from the clock 0 on.
+pub(crate) fn write_events(out: &mut String, script: &[Entry]) -> Result<(), AllocError>
+    ensures { OnOk result (string_bytes out.new ≡ string_bytes out.old ++ event_lines 0 (trace_of script.now)) }
 {
-    writeln!(out, "(totals {accepted} {served} {withdrawn} {waiting})")
-}
-
-fn layer_word(layer: Layer) -> &'static str
-    ensures { result.now ≡ layer_word layer }
-{
-    match layer {
-        Layer::Letters => "letters",
-        Layer::Forms => "forms",
-        Layer::Sheet => "sheet",
-        Layer::Table => "table",
+    let mut clock = 0;
+    for entry in script {
+        write_event(out, clock, entry)?;
+        clock += ticks_of(entry.answer);
     }
-}
-
-// The one line of a text that is no sheet.
-pub(crate) fn write_fault(out: &mut String, fault: Fault) -> Result<(), AllocError>
-    ensures { OnOk result (string_bytes out.new ≡ string_bytes out.old ++ fault_line fault) }
-{
-    let Fault {
-        number,
-        line,
-        byte,
-        layer,
-        row,
-    } = fault;
-    let layer = layer_word(layer);
-    match row {
-        None => writeln!(out, "(fault {number} {line} {byte} {layer})"),
-        Some(row) => writeln!(out, "(fault {number} {line} {byte} {layer} {row})"),
-    }
+    Ok(())
 }

@@ -1,19 +1,36 @@
 // What a run took in and gave out over all its errands.
-ghost use Rattle.std.specs.Prelude.{◌≡◌, ◌+◌, ◌-◌, ◌≤◌};
+ghost use Rattle.std.specs.Prelude.{◌≡◌, ◌-◌, Some};
 ghost use Rattle.dispatcher.specs.Scripts.{trace_of};
 ghost use Rattle.model.specs.Totals.{total_accepted, total_served, total_withdrawn};
+ghost use Rattle.transcript.specs.Lines.{totals_words};
 ghost use Rattle.transcript.specs.Renderings.{accepted_by, served_by, withdrawn_by};
 
 use dispatcher::Entry;
 use model::{Answer, Call, Who};
+use std::fmt;
 
 // Units of accepted requests, ticks that errands had, and units that withdraws gave back. The sums are wide enough for
 // every script.
 #[derive(Clone, Copy)]
 pub(crate) struct Totals {
-    pub(crate) accepted: u128,
-    pub(crate) served: u128,
-    pub(crate) withdrawn: u128,
+    accepted: u128,
+    served: u128,
+    withdrawn: u128,
+}
+
+// The totals, and what waits in the end: what was accepted, and neither served nor withdrawn.
+impl fmt::Display for Totals {
+    ghost output = { λ t. Some (totals_words t.accepted t.served t.withdrawn (t.accepted - t.served - t.withdrawn)) };
+
+    fn fmt<W: fmt::Write>(&self, f: &mut fmt::Formatter<W>) -> fmt::Result {
+        let Totals {
+            accepted,
+            served,
+            withdrawn,
+        } = *self;
+        let waiting = accepted.saturating_sub(served).saturating_sub(withdrawn);
+        write!(f, "(totals {accepted} {served} {withdrawn} {waiting})")
+    }
 }
 
 fn accepted_by(entry: &Entry) -> u32
@@ -50,6 +67,7 @@ impl Totals {
         ensures served { result.served ≡ total_served (trace_of script.now) }
         ensures withdrawn { result.withdrawn ≡ total_withdrawn (trace_of script.now) }
     {
+        // One pass for the three sums; chains would go through the script three times.
         let mut accepted = 0;
         let mut served = 0;
         let mut withdrawn = 0;
@@ -63,13 +81,5 @@ impl Totals {
             served,
             withdrawn,
         }
-    }
-
-    // What waits in the end: what was accepted, and neither served nor withdrawn.
-    pub(crate) fn waiting(&self) -> u128
-        requires { self.now.served + self.now.withdrawn ≤ self.now.accepted }
-        ensures { result ≡ self.now.accepted - self.now.served - self.now.withdrawn }
-    {
-        self.accepted - self.served - self.withdrawn
     }
 }

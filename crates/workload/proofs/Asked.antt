@@ -1,7 +1,7 @@
 -- A call to one row of the slots: what it leaves in the rows, and that they are still kept.
-use Rattle.std.proofs.Common.{◌≡◌, ℕ, ◌<◌, ◌≤◌, true, List, [], ◌∷◌, length, get_or, take, set, Ok, Err, Result, sym, refl, ap, ◌∙◌, arith}
+use Rattle.std.proofs.Common.{◌≡◌, ℕ, ◌<◌, true, List, [], ◌∷◌, length, get_or, take, set, Ok, Err, Result, sym, refl, ap, ◌∙◌, arith}
 use Rattle.std.proofs.lemmas.List.{get_or-take, set-get_or}
-use Rattle.std.proofs.lemmas.Bool.{cond-false, cond-true, le-ltb, lt-ltb}
+use Rattle.std.proofs.lemmas.Bool.{cond-true, lt-ltb}
 use Rattle.model.proofs.Accepting.{call_keeps}
 use Rattle.model.proofs.Keeping.{kept_gives}
 use Rattle.model.proofs.Slots.{take_set}
@@ -18,9 +18,6 @@ use Rattle.model.specs.declared.rows.RowCall.{RowCall}
 use Rattle.workload.specs.Acts.{RowAsked, acted}
 use Rattle.workload.specs.Workloads.{rows_in, table_in}
 use Rattle.workload.specs.declared.workloads.Workload.{Workload}
-
-pub no_such_row : (clock : ℕ) (rows : List Row) (i : ℕ) (call : RowCall) → length rows ≤ i → call_refusal clock rows i call ≡ 1 ∷ []
-no_such_row clock rows i call le = cond-false _ _ _ (le-ltb _ _ le)
 
 module _ (clock : ℕ) (table : List Duty) (slots : List Row) (i : ℕ) (call : RowCall)
     (ok : admitted table ≡ true) (keeps : kept clock table (take (length table) slots) ≡ true) (short : i < length table) where
@@ -43,12 +40,12 @@ module _ (clock : ℕ) (table : List Duty) (slots : List Row) (i : ℕ) (call : 
       let there : i < length rows = omega (arith, (kept_gives clock table rows keeps).numbers.same_length) in
       cond-true _ _ _ (lt-ltb _ _ there) ∙ ap (λ (row : Row). row_refusal clock row call) (sym read)
 
-  pub accepted_rows : call_refusal clock rows i call ≡ [] → after ≡ rows_after table clock rows i call
+  accepted_rows : call_refusal clock rows i call ≡ [] → after ≡ rows_after table clock rows i call
   accepted_rows e =
       let free : row_refusal clock (row_at rows i) call ≡ [] = ap (λ (row : Row). row_refusal clock row call) (sym read) ∙ sym row_answers ∙ e in
       written ∙ ap (set rows i) (rw (free, acted))
 
-  pub refused_rows : (n : ℕ) (ns : List ℕ) → call_refusal clock rows i call ≡ n ∷ ns → after ≡ rows
+  refused_rows : (n : ℕ) (ns : List ℕ) → call_refusal clock rows i call ≡ n ∷ ns → after ≡ rows
   refused_rows n ns e =
       let barred : row_refusal clock (row_at rows i) call ≡ n ∷ ns = ap (λ (row : Row). row_refusal clock row call) (sym read) ∙ sym row_answers ∙ e in
       let same : acted (duty_at table i) clock (row_at rows i) call ≡ row_at rows i = rw (barred, acted) in

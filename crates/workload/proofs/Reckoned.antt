@@ -1,18 +1,21 @@
--- The idle ticks of the streams of rows 0 to i are the slack of row i.
-use Rattle.std.proofs.Common.{◌≡◌, ℕ, zero, suc, ◌+◌, ◌-◌, ◌<◌, ◌≤◌, true, List, length, take, sym, refl, ap, ◌∙◌, ⊎_elim, arith}
-use Rattle.std.proofs.lemmas.List.{take-take}
+-- The slack of a workload, row by row: the streams of rows 0 to i, their idle ticks, and the least of the slacks so far.
+use Rattle.std.proofs.Common.{◌≡◌, ℕ, zero, suc, ◌+◌, ◌-◌, ◌<◌, ◌≤◌, min, true, List, [], ◌∷◌, ◌++◌, length, take, sym, refl, ap, ◌∙◌, ⊎_elim, arith}
+use Rattle.std.proofs.lemmas.List.{take_more}
 use Rattle.std.proofs.lemmas.Bool.{cases_lt}
 use Rattle.model.proofs.Keeping.{kept_gives}
 use Rattle.model.proofs.Slack.{Rising, idle_more, idle_same, slack_is_idle_ticks}
 use Rattle.model.specs.Idle.{idle_ticks, within}
-use Rattle.model.specs.Kept.{kept}
 use Rattle.model.specs.Reckoning.{row_at, row_slack, window_end}
-use Rattle.model.specs.Table.{admitted, duty_at}
+use Rattle.model.specs.Table.{duty_at}
 use Rattle.model.specs.declared.duties.Duty.{Duty}
 use Rattle.model.specs.declared.rows.Row.{Row}
-use Rattle.workload.proofs.Ahead.{all_ask_is_demand, row_ahead}
-use Rattle.workload.specs.Streams.{all_ask, streams_of}
+use Rattle.workload.proofs.Ahead.{RowAhead, all_ask_is_demand, row_ahead, streams_at, streams_length, streams_tame}
+use Rattle.workload.proofs.Minimum.{least_of, least_of_more}
+use Rattle.workload.proofs.Tame.{all_ask_rising, no_stream, tame_take}
+use Rattle.workload.specs.Streams.{all_ask, all_tame, stream_of, streams_of}
+use Rattle.workload.specs.Workloads.{rows_in, table_in}
 use Rattle.workload.specs.declared.streams.Stream.{Stream}
+use Rattle.workload.specs.declared.workloads.Workload.{Workload}
 
 -- Equal demands have equal idle ticks, never more than there are ticks.
 idle_alike : (f g : ℕ → ℕ) → ((w : ℕ) → f w ≡ g w) → (n : ℕ) → idle_ticks f n ≡ idle_ticks g n
@@ -22,32 +25,67 @@ idle_alike f g same (suc n) =
     let next = same (suc n) in
     cc
 
-pub idle_at_most : (f : ℕ → ℕ) → Rising f → (n : ℕ) → idle_ticks f n ≤ n
+idle_at_most : (f : ℕ → ℕ) → Rising f → (n : ℕ) → idle_ticks f n ≤ n
 idle_at_most f rising zero = omega arith
 idle_at_most f rising (suc n) =
     let before = idle_at_most f rising n in
     ⊎_elim (λ lt. omega (arith, idle_same f rising n lt)) (λ le. omega (arith, idle_more f rising n le)) (cases_lt n (f (suc n) + idle_ticks f n))
 
-module _ (clock : ℕ) (table : List Duty) (rows : List Row) (streams : List Stream)
-    (ok : admitted table ≡ true) (keeps : kept clock table rows ≡ true)
-    (made : take (length table) streams ≡ streams_of clock table rows) where
-  -- However many of the first streams are taken, they are those of the first rows.
-  pub first_streams : (n : ℕ) → n ≤ length table → take n streams ≡ take n (streams_of clock table rows)
-  first_streams n le = sym (take-take n (length table) streams le) ∙ ap (take n) made
+module _ (w : Workload) where
+  -- The streams of the first n rows, and the slack of row i.
+  abbrev pub first_streams : ℕ → List Stream
+  first_streams n = take n (streams_of w.clock (table_in w) (rows_in w))
 
-  pub cut_streams : (i : ℕ) → i < length table → take (i + 1 - 0) streams ≡ take (suc i) (streams_of clock table rows)
-  cut_streams i lt =
-      let one : i + 1 - 0 ≡ suc i = omega arith in
-      rw one (first_streams (suc i) lt)
+  abbrev pub slacks : ℕ → ℕ
+  slacks i = row_slack (w.clock + 1) w.clock (table_in w) (rows_in w) i
 
-  pub idle_is_slack : (i : ℕ) → i < length table
-      → idle_ticks (all_ask (take (i + 1 - 0) streams)) (window_end (clock + 1) (duty_at table i) (row_at rows i) - clock)
-      ≡ row_slack (clock + 1) clock table rows i
-  idle_is_slack i lt =
-      let same = (kept_gives clock table rows keeps).numbers.same_length in
-      idle_alike (all_ask (take (i + 1 - 0) streams)) (within (clock + 1) clock table rows i)
-      (λ w.
-      ap (λ (ss : List Stream). all_ask ss w) (cut_streams i lt)
-      ∙ all_ask_is_demand clock table rows (suc i) w same (λ k short. (row_ahead clock table rows ok keeps k short).release_ahead))
-      (window_end (clock + 1) (duty_at table i) (row_at rows i) - clock)
-      ∙ sym (slack_is_idle_ticks (clock + 1) clock table rows i)
+  same : length (rows_in w) ≡ length (table_in w)
+  same = (kept_gives w.clock (table_in w) (rows_in w) w.keeps).numbers.same_length
+
+  ahead : (i : ℕ) → i < length (table_in w) → RowAhead w.clock (duty_at (table_in w) i) (row_at (rows_in w) i)
+  ahead = row_ahead w.clock (table_in w) (rows_in w) w.setting.admits w.keeps
+
+  pub first_tame : (n : ℕ) → all_tame (first_streams n) ≡ true
+  first_tame n =
+      tame_take n (streams_of w.clock (table_in w) (rows_in w)) (streams_tame w.clock (table_in w) (rows_in w) same ahead)
+
+  module _ (i : ℕ) (lt : i < length (table_in w)) where
+    -- One stream more.
+    stream_more : first_streams i ++ stream_of w.clock (duty_at (table_in w) i) (row_at (rows_in w) i) ∷ [] ≡ first_streams (i + 1)
+    stream_more =
+        let all = streams_of w.clock (table_in w) (rows_in w) in
+        let inside : i < length all = omega (arith, streams_length w.clock (table_in w) (rows_in w) same) in
+        sym (take_more all i no_stream inside
+        ∙ ap (λ (s : Stream). first_streams i ++ s ∷ []) (streams_at w.clock (table_in w) (rows_in w) i no_stream same lt))
+
+    -- The idle ticks of the streams of rows 0 to i, in the window of row i, are its slack.
+    abbrev window_at : ℕ
+    window_at = window_end (w.clock + 1) (duty_at (table_in w) i) (row_at (rows_in w) i) - w.clock
+
+    idle_is_slack : idle_ticks (all_ask (first_streams (i + 1))) window_at ≡ slacks i
+    idle_is_slack =
+        let one : i + 1 ≡ suc i = omega arith in
+        rw one
+        (idle_alike (all_ask (first_streams (suc i))) (within (w.clock + 1) w.clock (table_in w) (rows_in w) i)
+        (λ v. all_ask_is_demand w.clock (table_in w) (rows_in w) (suc i) v same (λ k short. (ahead k short).release_ahead))
+        window_at
+        ∙ sym (slack_is_idle_ticks (w.clock + 1) w.clock (table_in w) (rows_in w) i))
+
+    -- A turn over row i, with its duty and its state.
+    module _ (duty : Duty) (row : Row) (this : duty ≡ duty_at (table_in w) i) (that : row ≡ row_at (rows_in w) i) where
+      pub turn_ahead : RowAhead w.clock duty row
+      turn_ahead = rw (this, that) (ahead i lt)
+
+      pub turn_streams : (before after : List Stream) (stream : Stream)
+          → before ≡ first_streams i → stream ≡ stream_of w.clock duty row → after ≡ before ++ stream ∷ [] → after ≡ first_streams (i + 1)
+      turn_streams before after stream so_far is pushed = cc stream_more
+
+      pub turn_slack : (streams : List Stream) (window idle least : ℕ)
+          → streams ≡ first_streams (i + 1)
+          → window ≡ window_end (w.clock + 1) duty row - w.clock → window ≤ 8192
+          → idle ≡ idle_ticks (all_ask streams) window
+          → least ≡ least_of slacks i → min least idle ≡ least_of slacks (i + 1)
+      turn_slack streams window idle least are ends short is so_far =
+          let few = idle_at_most (all_ask streams) (all_ask_rising streams) window in
+          let slack : idle ≡ slacks i = cc idle_is_slack in
+          rw so_far (ap (min (least_of slacks i)) slack ∙ least_of_more slacks i (omega (arith, few, slack, is)))

@@ -1,9 +1,9 @@
 -- What tame streams ask for: sums that fit, that do not fall, and that stand still between jobs.
-use Rattle.std.proofs.Common.{◌≡◌, ℕ, zero, suc, ◌+◌, ◌-◌, ◌*◌, ◌<◌, ◌≤◌, true, List, [], ◌∷◌, ◌++◌, length, get_or, take, drop, sym, refl, ap, ◌∙◌, mul-le-mul, mul-le-mul_left, arith}
+use Rattle.std.proofs.Common.{◌≡◌, ℕ, zero, suc, ◌+◌, ◌-◌, ◌*◌, ◌<◌, ◌≤◌, min, true, List, [], ◌∷◌, ◌++◌, length, get_or, take, drop, refl, ap, ◌∙◌, div-mul-le_self, mul-le-mul, mul-le-mul_left, arith}
 use Rattle.std.proofs.lemmas.List.{at_drop_more, take_more}
 use Rattle.std.proofs.lemmas.Bool.{and_from, and_parts, leb-true}
 use Rattle.model.specs.Table.{ceil}
-use Rattle.model.proofs.Ceil.{ceil_at_most, ceil_mono, ceil_none, ceil_whole}
+use Rattle.model.proofs.Ceil.{ceil_at_most, ceil_covers, ceil_mono, ceil_whole}
 use Rattle.workload.specs.Streams.{all_ask, all_tame, asks, tame}
 use Rattle.workload.specs.declared.streams.Stream.{Stream}
 
@@ -31,10 +31,10 @@ tame_says s h =
 abbrev pub no_stream : Stream
 no_stream = record { left = 0; first = 0; cost = 0; separation = 0 }
 
-pub tame_at : (ss : List Stream) (k : ℕ) (s : Stream) → all_tame ss ≡ true → k < length ss → tame (get_or ss k s) ≡ true
-tame_at [] k s h lt = absurd (omega arith)
-tame_at (x ∷ ss) zero s h lt = (and_parts _ _ h).0
-tame_at (x ∷ ss) (suc k) s h lt = tame_at ss k s (and_parts _ _ h).1 (omega arith)
+pub tame_at : (ss : List Stream) (k : ℕ) → all_tame ss ≡ true → k < length ss → Tame (get_or ss k no_stream)
+tame_at [] k h lt = absurd (omega arith)
+tame_at (s ∷ ss) zero h lt = tame_says s (and_parts _ _ h).0
+tame_at (s ∷ ss) (suc k) h lt = tame_at ss k (and_parts _ _ h).1 (omega arith)
 
 pub tame_take : (n : ℕ) (ss : List Stream) → all_tame ss ≡ true → all_tame (take n ss) ≡ true
 tame_take zero ss h = refl
@@ -60,7 +60,7 @@ all_ask_small (s ∷ ss) w h le =
     omega (arith, asks_small s w (tame_says s both.0) le, all_ask_small ss w both.1 le)
 
 -- Within more ticks a stream asks for no less.
-pub asks_rising : (s : Stream) (v w : ℕ) → v ≤ w → asks s v ≤ asks s w
+asks_rising : (s : Stream) (v w : ℕ) → v ≤ w → asks s v ≤ asks s w
 asks_rising s v w le =
     omega (arith, mul-le-mul_left s.cost (ceil_mono (v - s.first) (w - s.first) s.separation (omega arith)))
 
@@ -68,30 +68,46 @@ pub all_ask_rising : (ss : List Stream) (v w : ℕ) → v ≤ w → all_ask ss v
 all_ask_rising [] v w le = omega arith
 all_ask_rising (s ∷ ss) v w le = omega (arith, asks_rising s v w le, all_ask_rising ss v w le)
 
--- One stream more of the sum over those that are left.
-pub all_ask_drop : (ss : List Stream) (k w : ℕ) → k < length ss
-    → all_ask (drop k ss) w ≡ asks (get_or ss k no_stream) w + all_ask (drop (k + 1) ss) w
-all_ask_drop ss k w lt = at_drop_more (λ rest. all_ask rest w) ss k no_stream lt
+-- What a turn adds to the sum, and the streams that remain to be added.
+pub all_ask_turn : (ss : List Stream) (k w sum jobs : ℕ) → k < length ss
+    → jobs ≡ ceil (w - (get_or ss k no_stream).first) (get_or ss k no_stream).separation
+    → sum + all_ask (drop k ss) w ≡ all_ask ss w
+    → sum + ((get_or ss k no_stream).left + (get_or ss k no_stream).cost * jobs) + all_ask (drop (k + 1) ss) w ≡ all_ask ss w
+all_ask_turn ss k w sum jobs lt are so_far =
+    let more : all_ask (drop k ss) w ≡ asks (get_or ss k no_stream) w + all_ask (drop (k + 1) ss) w =
+    at_drop_more (λ rest. all_ask rest w) ss k no_stream lt in
+    rw are (omega arith)
 
--- A stream asks for the same up to its next job.
-pub asks_until_first : (s : Stream) (w : ℕ) → w ≤ s.first → asks s s.first ≡ asks s w
-asks_until_first s w le =
-    ap (λ n. s.left + s.cost * n)
-    (ceil_none (s.first - s.first) s.separation (omega arith) ∙ sym (ceil_none (w - s.first) s.separation (omega arith)))
+-- A stream's next job at w or later begins at x: not long after w, and the stream asks for the same until then.
+pub record NextJob (s : Stream) (w x : ℕ) : Type 0 where
+  pub ahead : w ≤ x
+  pub near : x ≤ w + 8192
+  pub same : asks s x ≡ asks s w
 
-pub asks_until_next : (s : Stream) (w : ℕ) → 1 ≤ s.separation
-    → asks s (s.first + ceil (w - s.first) s.separation * s.separation) ≡ asks s w
-asks_until_next s w apart =
+next_job : (s : Stream) (w : ℕ) → Tame s → NextJob s w (s.first + ceil (w - s.first) s.separation * s.separation)
+unfolding ceil
+next_job s w t =
     let jobs = ceil (w - s.first) s.separation in
-    let ahead : s.first + jobs * s.separation - s.first ≡ jobs * s.separation = omega arith in
-    ap (λ n. s.left + s.cost * n) (ap (λ n. ceil n s.separation) ahead ∙ ceil_whole jobs s.separation apart)
+    let covers : w - s.first ≤ jobs * s.separation = ceil_covers (w - s.first) s.separation t.apart in
+    let no-more : jobs * s.separation ≤ w - s.first + (s.separation - 1) = div-mul-le_self (w - s.first + (s.separation - 1)) s.separation in
+    let since : s.first + jobs * s.separation - s.first ≡ jobs * s.separation = omega arith in
+    record {
+      ahead = omega arith;
+      near = omega (arith, t.first_small, t.separation_small);
+      same = ap (λ n. s.left + s.cost * n) (ap (λ n. ceil n s.separation) since ∙ ceil_whole jobs s.separation t.apart);
+    }
+
+pub next_at : (ss : List Stream) (k w jobs : ℕ) → all_tame ss ≡ true → k < length ss
+    → jobs ≡ ceil (w - (get_or ss k no_stream).first) (get_or ss k no_stream).separation
+    → NextJob (get_or ss k no_stream) w ((get_or ss k no_stream).first + jobs * (get_or ss k no_stream).separation)
+next_at ss k w jobs h lt are = rw are (next_job (get_or ss k no_stream) w (tame_at ss k h lt))
 
 -- One stream more of the sum over the first ones.
 all_ask_append : (ss ts : List Stream) (w : ℕ) → all_ask (ss ++ ts) w ≡ all_ask ss w + all_ask ts w
 all_ask_append [] ts w = omega arith
 all_ask_append (s ∷ ss) ts w = omega (arith, all_ask_append ss ts w)
 
-pub all_ask_take : (ss : List Stream) (k w : ℕ) → k < length ss
+all_ask_take : (ss : List Stream) (k w : ℕ) → k < length ss
     → all_ask (take (k + 1) ss) w ≡ all_ask (take k ss) w + asks (get_or ss k no_stream) w
 all_ask_take ss k w lt =
     ap (λ (ts : List Stream). all_ask ts w) (take_more ss k no_stream lt)
@@ -99,5 +115,17 @@ all_ask_take ss k w lt =
     ∙ omega arith
 
 -- What asks for no more at a later time asks for the same until then.
-pub still_until : (f : ℕ → ℕ) → ((v w : ℕ) → v ≤ w → f v ≤ f w) → (v x y : ℕ) → v ≤ x → x ≤ y → f y ≡ f v → f x ≡ f v
+still_until : (f : ℕ → ℕ) → ((v w : ℕ) → v ≤ w → f v ≤ f w) → (v x y : ℕ) → v ≤ x → x ≤ y → f y ≡ f v → f x ≡ f v
 still_until f rising v x y low high same = omega (arith, rising v x low, rising x y high)
+
+-- What a turn adds to the streams that stay quiet until `least`.
+pub quiet_turn : (ss : List Stream) (k ticks until next least : ℕ) → k < length ss
+    → ticks ≤ until → NextJob (get_or ss k no_stream) ticks next → least ≡ min until next
+    → all_ask (take k ss) until ≡ all_ask (take k ss) ticks
+    → all_ask (take (k + 1) ss) least ≡ all_ask (take (k + 1) ss) ticks
+quiet_turn ss k ticks until next least lt low job is before =
+    let s = get_or ss k no_stream in
+    let above : ticks ≤ least = omega (arith, job.ahead) in
+    let this = still_until (asks s) (asks_rising s) ticks least next above (omega arith) job.same in
+    let others = still_until (all_ask (take k ss)) (all_ask_rising (take k ss)) ticks least until above (omega arith) before in
+    omega (arith, this, others, all_ask_take ss k least lt, all_ask_take ss k ticks lt)

@@ -1,6 +1,6 @@
 // What calls do to a row.
 ghost use Rattle.std.specs.Prelude.{◌≡◌};
-ghost use Rattle.model.specs.Machine.{first_ready, released, row_refusal};
+ghost use Rattle.model.specs.Machine.{released, row_refusal};
 ghost use Rattle.model.specs.Refusals.{refusal};
 ghost use Rattle.workload.specs.Acts.{acted};
 
@@ -24,19 +24,13 @@ pub(crate) fn act(row: &mut Row, call: RowCall, duty: Duty, clock: u32) -> Resul
     ensures leaves { row.new ≡ acted duty clock row.old call }
 {
     let now = u64::from(clock);
-    match (*row, call) {
-        (Row::Idle { earliest }, RowCall::Release) if now < earliest => Err(Refusal::TooSoon),
-        (Row::Ready { earliest, .. }, RowCall::Release) if now < earliest => Err(Refusal::TooSoon),
-        (_, RowCall::Release) => {
-            *row = released(duty, clock);
-            Ok(())
+    *row = match (*row, call) {
+        (Row::Idle { earliest } | Row::Ready { earliest, .. }, RowCall::Release)
+            if now < earliest => {
+            return Err(Refusal::TooSoon);
         }
-        (Row::Idle { .. }, RowCall::Done) => Err(Refusal::RowIdle),
-        (Row::Ready { earliest, .. }, RowCall::Done) => {
-            *row = Row::Idle { earliest };
-            Ok(())
-        }
-        (Row::Idle { .. }, RowCall::Run) => Ok(()),
+        (_, RowCall::Release) => released(duty, clock),
+        (Row::Idle { .. }, RowCall::Done) => return Err(Refusal::RowIdle),
         (
             Row::Ready {
                 left,
@@ -44,29 +38,13 @@ pub(crate) fn act(row: &mut Row, call: RowCall, duty: Duty, clock: u32) -> Resul
                 earliest,
             },
             RowCall::Run,
-        ) => {
-            *row = if left <= 1 {
-                Row::Idle { earliest }
-            } else {
-                Row::Ready {
-                    left: left - 1,
-                    due,
-                    earliest,
-                }
-            };
-            Ok(())
-        }
-    }
-}
-
-// The ready row with the smallest number.
-pub(crate) fn first_ready(rows: &[Row]) -> Option<usize>
-    ensures { result ≡ first_ready rows.now }
-{
-    for (i, row) in rows.iter().enumerate() {
-        if let Row::Ready { .. } = row {
-            return Some(i);
-        }
-    }
-    None
+        ) if left > 1 => Row::Ready {
+            left: left - 1,
+            due,
+            earliest,
+        },
+        (Row::Ready { earliest, .. }, RowCall::Done | RowCall::Run) => Row::Idle { earliest },
+        (idle, RowCall::Run) => idle,
+    };
+    Ok(())
 }

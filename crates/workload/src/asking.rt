@@ -1,17 +1,17 @@
 // A workload begins fresh, and goes on by releases, dones and ticks.
-ghost use Rattle.std.specs.Prelude.{◌≡◌, ◌+◌, ◌<◌, length, replicate, Some};
-ghost use Rattle.model.specs.Machine.{duty_tick, first_ready, last_clock, rows_after};
+ghost use Rattle.std.specs.Prelude.{◌≡◌, ◌+◌, ◌<◌, length, replicate};
+ghost use Rattle.model.specs.Machine.{duty_tick, first_ready, last_clock};
 ghost use Rattle.model.specs.declared.rows.Row.TheVariants.{Idle};
-ghost use Rattle.model.specs.declared.rows.RowCall.TheVariants.{Release, Done, Run};
+ghost use Rattle.model.specs.declared.rows.RowCall.TheVariants.{Release, Done};
 ghost use Rattle.table.specs.Settings.{table_of};
 ghost use Rattle.workload.specs.Acts.{RowAsked, Ticked, turn_of};
 ghost use Rattle.workload.specs.Workloads.{rows_in, table_in};
 
-use crate::acts::{act, first_ready};
+use crate::acts::act;
 use crate::turns::Turn;
 use crate::workloads::Workload;
 use model::{Refusal, Row, RowCall};
-use table::Setting;
+use table::{MOST_ROWS, Setting};
 
 impl Workload {
     // At the start the clock is 0 and every row is idle and may be released at once.
@@ -22,7 +22,7 @@ impl Workload {
     {
         Workload {
             setting,
-            rows: [Row::Idle { earliest: 0 }; 16],
+            rows: [Row::Idle { earliest: 0 }; MOST_ROWS],
             clock: 0,
         }
     }
@@ -42,14 +42,11 @@ impl Workload {
     fn ask(&mut self, row: u32, call: RowCall) -> Result<(), Refusal>
         ensures { RowAsked self.old row call result self.new }
     {
-        let duties = self.setting.rows();
         let row = row as usize;
-        if row >= duties.len() {
+        let Some(&duty) = self.setting.rows().get(row) else {
             return Err(Refusal::NoSuchRow);
-        }
-        let duty = duties[row];
-        let clock = self.clock;
-        act(&mut self.rows[row], call, duty, clock)
+        };
+        act(&mut self.rows[row], call, duty, self.clock)
     }
 
     // One tick. It is to spare exactly if an errand waits and the slack is at least 1; otherwise the first ready row
@@ -57,16 +54,16 @@ impl Workload {
     pub fn tick(&mut self, errand_waits: bool) -> Result<(u32, Turn), Refusal>
         ensures { Ticked self.old errand_waits result self.new }
     {
-        let clock = self.clock;
-        if clock == u32::MAX {
+        if self.clock == u32::MAX {
             return Err(Refusal::ClockEnded);
         }
         let slack = self.slack();
-        if errand_waits && slack >= 1 {
-            self.clock = clock + 1;
-            return Ok((slack, Turn::Spare));
-        }
-        let turn = self.run();
+        let turn = if errand_waits && slack >= 1 {
+            self.clock += 1;
+            Turn::Spare
+        } else {
+            self.run()
+        };
         Ok((slack, turn))
     }
 
@@ -78,36 +75,31 @@ impl Workload {
         ensures table { table_in self.new ≡ table_in self.old }
         ensures clock { self.new.clock ≡ self.old.clock + 1 }
     {
-        match self.next_row() {
+        let turn = match self.first_ready() {
             Some(row) => {
-                self.run_row(row);
-                Turn::Duty(row as u32)
+                let row = row as u32;
+                let _ = self.ask(row, RowCall::Run);
+                Turn::Duty(row)
             }
-            None => {
-                self.clock += 1;
-                Turn::Nobody
-            }
-        }
+            None => Turn::Nobody,
+        };
+        self.clock += 1;
+        turn
     }
 
     // The first ready row.
-    fn next_row(&self) -> Option<usize>
+    fn first_ready(&self) -> Option<usize>
         ensures { result ≡ first_ready (rows_in self.now) }
     {
-        let len = self.setting.rows().len();
-        first_ready(&self.rows[0..len])
+        self.rows()
+            .iter()
+            .position(|row| matches!(row, Row::Ready { .. }))
     }
 
-    // Gives a tick to the first ready row.
-    fn run_row(&mut self, row: usize)
-        requires { (self.old.clock < last_clock) × (first_ready (rows_in self.old) ≡ Some row) }
-        ensures rows { rows_in self.new ≡ rows_after (table_in self.old) self.old.clock (rows_in self.old) row Run }
-        ensures table { table_in self.new ≡ table_in self.old }
-        ensures clock { self.new.clock ≡ self.old.clock + 1 }
+    // The states of the table's rows.
+    pub(crate) fn rows(&self) -> &[Row]
+        ensures { result.now ≡ rows_in self.now }
     {
-        let duty = self.setting.rows()[row];
-        let clock = self.clock;
-        let _ = act(&mut self.rows[row], RowCall::Run, duty, clock);
-        self.clock = clock + 1;
+        &self.rows[..self.setting.rows().len()]
     }
 }

@@ -3,13 +3,15 @@ ghost use Rattle.model.specs.Kept.{kept};
 ghost use Rattle.table.specs.Settings.{table_of};
 
 use model::Row;
-use table::Setting;
+use table::{MOST_ROWS, Setting};
 
 // A table, the state of each of its rows, and the clock. None can exist in which a row's slack is below 0.
 #[derive(Drop)]
 pub struct Workload {
     pub(crate) setting: Setting,
-    pub(crate) rows: [Row; 16],
+    // One slot for each row that a table can have; the first as many as the setting has duties are in use. A vector would keep
+    // a second count, which would have to equal the setting's.
+    pub(crate) rows: [Row; MOST_ROWS],
     pub(crate) clock: u32,
     ghost keeps: { kept clock (table_of setting) (take (length (table_of setting)) rows) ≡ true },
 }

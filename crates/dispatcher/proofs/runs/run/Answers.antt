@@ -11,40 +11,40 @@ use Rattle.dispatcher.specs.Views.{duties, view}
 use Rattle.dispatcher.specs.declared.entries.Entry.{Entry}
 use Rattle.dispatcher.proofs.runs.run.Goals as goal
 
-pub loop-i-init : goal.loop-i-init
-loop-i-init g c = (stay, refl, refl)
+pub loop-entry-init : goal.loop-entry-init
+loop-entry-init g c = (stay, refl, refl)
 
-pub loop-i-preserved : goal.loop-i-preserved
-loop-i-preserved g c =
-    let (run, table, calls) = c.loop-i.invariant in
-    let script = c.loop-i.script in
-    let i = c.loop-i.i in
-    let answer = c.carry_out.result in
+pub loop-entry-preserved : goal.loop-entry-preserved
+loop-entry-preserved g c =
+    let (run, table, calls) = c.loop-entry.invariant in
+    let script = c.loop-entry.script in
+    let i = c.loop-entry.entry-index in
+    let answer = c.carry_out-entry.result in
     let first = c.start-dispatcher.result in
-    let before = view g.Q.Queue.meaning c.loop-i.dispatcher in
-    let after = view g.Q.Queue.meaning c.carry_out.new.self in
+    let before = view g.Q.Queue.meaning c.loop-entry.dispatcher in
+    let after = view g.Q.Queue.meaning c.carry_out-entry.new.self in
     let short : i < length script = omega arith in
-    let next = subst (λ (t : List Duty). Step t before (get_or script i no_entry).call answer after) table c.carry_out.ensures.step in (
+    let next = subst (λ (t : List Duty). Step t before (get_or script i no_entry).call answer after) table c.carry_out-entry.ensures.step in (
       subst (λ (t : Trace). Run (duties first) (view g.Q.Queue.meaning first) t after)
           (sym (trace_more script i answer short)) (run_more (get_or script i no_entry).call answer run next),
-      c.carry_out.ensures.table ∙ table,
+      c.carry_out-entry.ensures.table ∙ table,
       calls_stay script i answer short ∙ calls,
     )
 
 pub returns : goal.returns
 returns g c =
-    let (run, table, calls) = c.loop-i.invariant in
+    let (run, table, calls) = c.loop-entry.invariant in
     let setting = c.args.setting in
     let m = g.Q.Queue.meaning c.args.queue in
-    let end = view g.Q.Queue.meaning c.loop-i.dispatcher in
-    let whole = take_all c.loop-i.i c.loop-i.script (omega arith) in
-    let all : Run (duties c.start-dispatcher.result) (view g.Q.Queue.meaning c.start-dispatcher.result) (trace_of c.loop-i.script) end =
+    let end = view g.Q.Queue.meaning c.loop-entry.dispatcher in
+    let whole = take_all c.loop-entry.entry-index c.loop-entry.script (omega arith) in
+    let all : Run (duties c.start-dispatcher.result) (view g.Q.Queue.meaning c.start-dispatcher.result) (trace_of c.loop-entry.script) end =
     subst (λ (s : List Entry). Run (duties c.start-dispatcher.result) (view g.Q.Queue.meaning c.start-dispatcher.result) (trace_of s) end) whole run in
-    let fresh-run : Run (table_of setting) (fresh (table_of setting) m) (trace_of c.loop-i.script) end =
-    subst (λ (t : List Duty). Run t (fresh (table_of setting) m) (trace_of c.loop-i.script) end) c.start-dispatcher.ensures.table
-    (subst (λ (s : State). Run (duties c.start-dispatcher.result) s (trace_of c.loop-i.script) end) c.start-dispatcher.ensures.state all) in
+    let fresh-run : Run (table_of setting) (fresh (table_of setting) m) (trace_of c.loop-entry.script) end =
+    subst (λ (t : List Duty). Run t (fresh (table_of setting) m) (trace_of c.loop-entry.script) end) c.start-dispatcher.ensures.table
+    (subst (λ (s : State). Run (duties c.start-dispatcher.result) s (trace_of c.loop-entry.script) end) c.start-dispatcher.ensures.state all) in
     record {
-      promise = every_run_keeps_the_promise (table_of setting) m (trace_of c.loop-i.script) end setting.admits (g.Q.Queue.sound c.args.queue) fresh-run;
+      promise = every_run_keeps_the_promise (table_of setting) m (trace_of c.loop-entry.script) end setting.admits (g.Q.Queue.sound c.args.queue) fresh-run;
       calls = calls;
       table = table ∙ c.start-dispatcher.ensures.table;
     }

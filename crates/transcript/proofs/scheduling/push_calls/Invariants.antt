@@ -1,4 +1,4 @@
-use Rattle.std.proofs.Common.{◌≡◌, ◌++◌, length, vec_items}
+use Rattle.std.proofs.Common.{◌≡◌, ◌++◌}
 use Rattle.dispatcher.specs.Scripts.{calls_of}
 use Rattle.sheet.specs.Ats.{calls_left}
 use Rattle.transcript.proofs.scheduling.push_calls.Given as goal
@@ -6,8 +6,5 @@ use Rattle.transcript.proofs.scheduling.push_calls.Given as goal
 -- The calls so far, and those that are left, are all.
 abbrev pub invariant-loop-call : goal.invariant-loop-call
 invariant-loop-call l =
-    calls_of (vec_items l.script) ++ calls_left l.calls
-    ≡ calls_of (vec_items l.initial.script) ++ calls_left l.initial.calls
-
-abbrev pub decreases-loop-call : goal.decreases-loop-call
-decreases-loop-call l = length (calls_left l.calls)
+    calls_of l.script.items ++ calls_left l.call-iterator
+    ≡ calls_of l.initial.script.items ++ calls_left l.initial.call-iterator

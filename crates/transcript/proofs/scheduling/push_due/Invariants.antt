@@ -1,4 +1,4 @@
-use Rattle.std.proofs.Common.{◌≡◌, ◌-◌, ◌++◌, length, drop, vec_items}
+use Rattle.std.proofs.Common.{◌≡◌, ◌++◌, length}
 use Rattle.std.specs.List.{flat_map}
 use Rattle.dispatcher.specs.Scripts.{calls_of}
 use Rattle.sheet.specs.Ats.{calls_of as calls_at}
@@ -6,11 +6,11 @@ use Rattle.transcript.specs.Timings.{due, later, lines_of}
 use Rattle.transcript.proofs.scheduling.push_due.Given as goal
 
 -- The calls so far, and those of the at-lines that are still due, are all; and the same at-lines come later.
-abbrev pub invariant-loop-next : goal.invariant-loop-next
-invariant-loop-next l =
-    (calls_of (vec_items l.script) ++ flat_map (calls_at l.text) (lines_of (due l.clock (drop l.next l.line)))
-    ≡ calls_of (vec_items l.initial.script) ++ flat_map (calls_at l.text) (lines_of (due l.clock (drop l.initial.next l.line))))
-    × (later l.clock (drop l.next l.line) ≡ later l.clock (drop l.initial.next l.line))
+abbrev pub invariant-loop-at : goal.invariant-loop-at
+invariant-loop-at l =
+    (calls_of l.script.items ++ flat_map calls_at (lines_of (due l.clock l.upcoming.line.now))
+    ≡ calls_of l.initial.script.items ++ flat_map calls_at (lines_of (due l.clock l.initial.upcoming.line.now)))
+    × (later l.clock l.upcoming.line.now ≡ later l.clock l.initial.upcoming.line.now)
 
-abbrev pub decreases-loop-next : goal.decreases-loop-next
-decreases-loop-next l = length l.line - l.next
+abbrev pub decreases-loop-at : goal.decreases-loop-at
+decreases-loop-at l = length (due l.clock l.upcoming.line.now)

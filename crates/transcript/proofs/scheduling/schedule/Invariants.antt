@@ -1,4 +1,4 @@
-use Rattle.std.proofs.Common.{◌≡◌, drop, vec_items}
+use Rattle.std.proofs.Common.{◌≡◌}
 use Rattle.dispatcher.specs.Scripts.{calls_of}
 use Rattle.transcript.proofs.Clocks.{Ahead}
 use Rattle.transcript.specs.Schedules.{script_of}
@@ -8,5 +8,5 @@ use Rattle.transcript.proofs.scheduling.schedule.Given as goal
 -- The script up to this clock is made, and the at-lines from it on are ahead.
 abbrev pub invariant-loop-clock : goal.invariant-loop-clock
 invariant-loop-clock l =
-    (calls_of (vec_items l.script) ≡ script_of l.text (lines_of l.line) l.clock)
-    × Ahead l.clock (lines_of l.line) (drop l.next l.line)
+    (calls_of l.script.items ≡ script_of (lines_of l.line) l.clock)
+    × Ahead l.clock (lines_of l.line) l.upcoming.line.now

@@ -1,33 +1,20 @@
-use Rattle.std.proofs.Common.{◌+◌, ◌≤◌, List, ◌++◌, length, vec_items, string_bytes, Result, sym, ap, ◌∙◌, subst}
+use Rattle.std.proofs.Common.{List, ◌++◌, length, string_bytes, ap, ◌∙◌}
 use Rattle.dispatcher.specs.Scripts.{trace_of}
 use Rattle.dispatcher.specs.declared.entries.Entry.{Entry}
-use Rattle.forms.specs.declared.faults.Fault.{Fault}
-use Rattle.model.specs.Totals.{total_accepted, total_served, total_withdrawn}
 use Rattle.model.specs.declared.duties.Duty.{Duty}
-use Rattle.sheet.specs.Sheets.{Set, set_by}
-use Rattle.transcript.proofs.Balanced.{accepted_covers, transcript_of}
+use Rattle.sheet.specs.Sheets.{set_by}
+use Rattle.transcript.proofs.Balanced.{transcript_of}
 use Rattle.transcript.specs.Renderings.{duty_lines, left_over, run_lines}
-use Rattle.transcript.specs.Transcripts.{PrintedOf}
 use Rattle.transcript.proofs.transcripts.sheet_text.Goals as goal
-
-pub write_run-requires : goal.write_run-requires
-write_run-requires c =
-    let table = (set_by c.in_ok-sheet.sheet).table in
-    let script = vec_items c.in_ok-script.script in
-    let (end, ran) = c.in_ok-script.ensures.runs in
-    subst (λ (es : List Entry). total_served (trace_of es) + total_withdrawn (trace_of es) ≤ total_accepted (trace_of es)) (sym c.as_slice.ensures.value)
-    (accepted_covers table (trace_of script) end ran)
 
 pub returns : goal.returns
 returns c =
-    let text = c.args.text.now in
-    let sheet = set_by c.in_ok-sheet.sheet in
-    let script = vec_items c.in_ok-script.script in
+    let sheet = set_by c.args.sheet in
+    let script = c.in_ok-script.script.items in
     let start = string_bytes c.new-out.result in
     let duties = string_bytes c.write_duties.new.out in
     let out = string_bytes c.write_run.new.out in
     let (end, ran) = c.in_ok-script.ensures.runs in
-    subst (λ (r : Result Set Fault). PrintedOf text r out) c.in_ok-sheet.ensures
-    (transcript_of text sheet script end start duties out ran c.in_ok-script.ensures.calls c.new-out.ensures.bytes
+    transcript_of sheet script end start duties out ran c.in_ok-script.ensures.calls c.new-out.ensures.bytes
     (c.in_ok-write_duties.ensures ∙ ap (λ (table : List Duty). start ++ duty_lines table (length table)) c.setting.ensures)
-    (c.in_ok-write_run.ensures ∙ ap (λ (es : List Entry). duties ++ run_lines (trace_of es) (left_over (trace_of es))) c.as_slice.ensures.value))
+    (c.in_ok-write_run.ensures ∙ ap (λ (es : List Entry). duties ++ run_lines (trace_of es) (left_over (trace_of es))) c.as_slice.ensures.value)

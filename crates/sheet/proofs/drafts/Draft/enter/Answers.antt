@@ -18,7 +18,7 @@ returns-in_err-said c =
 pub take-requires : goal.take-requires
 take-requires c =
     let s = so_far c.args.self.now in
-    (c.requires, room_in_place s (line_of c.args.line) c.in_ok-said.said c.in_ok-said.ensures)
+    room_in_place s (line_of c.args.line) c.in_ok-said.said c.in_ok-said.ensures
 
 pub returns : goal.returns
 returns c =

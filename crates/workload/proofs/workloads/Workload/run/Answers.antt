@@ -1,9 +1,25 @@
-use Rattle.std.proofs.Common.{sym, arith}
-use Rattle.workload.proofs.Running.{nobody_keeps, ready_few}
+use Rattle.std.proofs.Common.{sym, ◌∙◌, arith}
+use Rattle.workload.proofs.Running.{Ran, nobody_ran, ran_kept, ready_few, row_ran}
+use Rattle.workload.proofs.workloads.Workload.run.Goals.{in-None, in-Some}
 use Rattle.workload.proofs.workloads.Workload.run.Goals as goal
 
-pub overflow_cast-result : goal.overflow_cast-result
-overflow_cast-result c = omega (arith, ready_few c.args.self.now c.in-Some.row (sym c.in-Some.ensures))
+pub overflow_cast-row : goal.overflow_cast-row
+overflow_cast-row c = omega (arith, ready_few c.args.self.now c.in-Some.row (sym c.first_ready.ensures ∙ c.in-Some.is))
 
 pub invariant_of-self : goal.invariant_of-self
-invariant_of-self c = record { keeps = nobody_keeps c.args.self.now (sym c.in-None.ensures) }
+invariant_of-self c =
+    let w = c.args.self.now in
+    let ran : Ran w c.match-first_ready.self = elim c.match-first_ready.branch [
+      | in-Some b ↦ rw b.self-is (row_ran w _ (sym c.first_ready.ensures ∙ b.in-Some.is) _ _ b.ask.ensures)
+      | in-None b ↦ rw b.self-is (nobody_ran w (sym c.first_ready.ensures ∙ b.in-None.is))
+    ] in
+    record { keeps = ran_kept w c.match-first_ready.self ran }
+
+pub returns-clause-rows : goal.returns-clause-rows
+returns-clause-rows c =
+    let w = c.args.self.now in
+    let ran : Ran w c.match-first_ready.self = elim c.match-first_ready.branch [
+      | in-Some b ↦ rw b.self-is (row_ran w _ (sym c.first_ready.ensures ∙ b.in-Some.is) _ _ b.ask.ensures)
+      | in-None b ↦ rw b.self-is (nobody_ran w (sym c.first_ready.ensures ∙ b.in-None.is))
+    ] in
+    ran.rows

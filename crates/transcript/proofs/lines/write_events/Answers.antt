@@ -1,0 +1,28 @@
+use Rattle.std.proofs.Common.{ℕ, ◌+◌, ◌<◌, List, ◌++◌, length, get_or, drop, string_bytes, sym, ap, ◌∙◌, arith}
+use Rattle.dispatcher.specs.Scripts.{trace_of}
+use Rattle.transcript.specs.Lines.{event_line}
+use Rattle.transcript.specs.Renderings.{event_lines}
+use Rattle.transcript.proofs.Growing.{part_more}
+use Rattle.transcript.proofs.Rendered.{at_most_one, events_all, events_more, no_entry}
+use Rattle.transcript.proofs.lines.write_events.Goals as goal
+
+pub loop-entry-preserved : goal.loop-entry-preserved
+loop-entry-preserved c =
+    let script = c.args.script.now in
+    let i = c.loop-entry.entry-index in
+    let clock = c.loop-entry.clock in
+    let e = get_or script i no_entry in
+    let line = event_line clock e.call e.answer in
+    let written = string_bytes c.loop-entry.out in
+    let short : i < length script = omega arith in
+    let moved = c.ticks_of-clock.ensures in
+    let (all, behind) = c.loop-entry.invariant in
+    let more =
+    events_more script i clock short
+    ∙ ap (λ (k : ℕ). line ++ event_lines (clock + k) (trace_of (drop (i + 1) script))) (sym moved) in (
+      part_more written line _ _ _ (ap (λ (bs : List ℕ). written ++ bs) (sym more) ∙ all) c.in_ok-write_event.ensures,
+      omega (arith, at_most_one e.answer, moved),
+    )
+
+pub returns : goal.returns
+returns c = events_all c.args.script.now c.loop-entry.entry-index c.loop-entry.clock _ _ (omega arith) c.loop-entry.invariant.0

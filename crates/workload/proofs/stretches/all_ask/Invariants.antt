@@ -1,7 +1,0 @@
-use Rattle.std.proofs.Common.{◌≡◌, ◌+◌, drop}
-use Rattle.workload.specs.Streams.{all_ask}
-use Rattle.workload.proofs.stretches.all_ask.Given as goal
-
--- The streams so far and those to come make the sum.
-abbrev pub invariant-loop-stream : goal.invariant-loop-stream
-invariant-loop-stream l = l.sum + all_ask (drop l.stream-index l.streams) l.ticks ≡ all_ask l.streams l.ticks
