@@ -1,5 +1,7 @@
 -- Slots as they are made for an errand that is put.
-use Rattle.std.specs.Prelude.{◌≡◌, ℕ, true, false, [], ◌∷◌, Ok, Err, Result}
+use Rattle.std.specs.Prelude.{◌≡◌, ℕ, ◌≤◌, true, false, ◌&&◌, [], ◌∷◌, Ok, Err, Result, nat_le}
+use Rattle.std.proofs.Common.{leb-true}
+use Rattle.std.proofs.lemmas.Bool.{and_parts}
 use Rattle.model.specs.Queues.{errand_within}
 use Rattle.model.specs.Refusals.{told}
 use Rattle.model.specs.declared.errands.Errand.{Errand}
@@ -24,3 +26,10 @@ with_units s units =
       errand = record { number = s.errand.number; units = units; worth = s.errand.worth };
       rating = s.rating;
     }
+
+-- An errand within its limits has a unit.
+pub some_units : (e : Errand) → errand_within e ≡ true → 1 ≤ e.units
+some_units e h =
+    let (sizes, worth) = and_parts (nat_le 1 e.units && nat_le e.units 4096) (nat_le e.worth 65535) h in
+    let (some, most) = and_parts (nat_le 1 e.units) (nat_le e.units 4096) sizes in
+    leb-true 1 e.units some

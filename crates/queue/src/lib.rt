@@ -9,6 +9,5 @@ mod slots;
 
 pub use errand_queue::{ByWorth, ErrandQueue, FirstCome};
 pub use queues::Queue;
-pub use ratings::Rating;
 pub use rules::{Alike, Rule, WorthForUnits, rules_as_named};
 pub use slots::Slot;

@@ -13,7 +13,7 @@ impl Rating {
     ghost use Rattle.queue.specs.Ratings.{outrates};
 
     // A worth for so many units.
-    pub fn of(worth: u32, units: u32) -> Rating
+    pub(crate) fn of(worth: u32, units: u32) -> Rating
         requires { 1 ≤ units }
         ensures worth { result.worth ≡ worth }
         ensures units { result.units ≡ units }

@@ -1,8 +1,9 @@
-ghost use Rattle.std.specs.Prelude.{◌≡◌, ℕ, true};
+ghost use Rattle.std.specs.Prelude.{◌≡◌, ℕ, ◌≤◌, true};
+ghost use Rattle.std.proofs.Common.{arith};
 ghost use Rattle.model.specs.Queues.{errand_within};
 ghost use Rattle.model.specs.declared.errands.Errand.{Errand as Request};
+ghost use Rattle.queue.specs.Slots.{some_units};
 
-use super::ratings::Rating;
 use model::Errand;
 
 // How a queue rates the errands that are put there: by a worth for so many units.
@@ -11,10 +12,13 @@ pub trait Rule {
 
     ghost units: { Request → ℕ };
 
-    fn rating(errand: &Errand) -> Rating
-        requires { errand_within errand.now ≡ true }
-        ensures worth_put { result.worth ≡ worth errand.now }
-        ensures units_put { result.units ≡ units errand.now };
+    // The worth, and the units that it is for.
+    fn rate(errand: &Errand) -> (u32, u32)
+        ensures worth_put { result.0 ≡ worth errand.now }
+        ensures units_put { result.1 ≡ units errand.now };
+
+    // The worth of an errand within its limits is for some units.
+    ghost some: { (errand : Request) → errand_within errand ≡ true → 1 ≤ units errand };
 }
 
 // Rates every errand as every other, so that none outrates another.
@@ -25,8 +29,10 @@ impl Rule for Alike {
 
     ghost units = { λ _. 1 };
 
-    fn rating(_errand: &Errand) -> Rating {
-        Rating::of(0, 1)
+    ghost some = { λ _ _. Prim.omega arith };
+
+    fn rate(_errand: &Errand) -> (u32, u32) {
+        (0, 1)
     }
 }
 
@@ -38,8 +44,10 @@ impl Rule for WorthForUnits {
 
     ghost units = { λ errand. errand.units };
 
-    fn rating(errand: &Errand) -> Rating {
-        Rating::of(errand.worth, errand.units)
+    ghost some = { some_units };
+
+    fn rate(errand: &Errand) -> (u32, u32) {
+        (errand.worth, errand.units)
     }
 }
 

@@ -60,9 +60,10 @@ impl Slot {
         if !within_limits(&errand) {
             return Err(Refusal::ErrandLimits);
         }
+        let (worth, units) = R::rate(&errand);
         Ok(Slot {
             errand,
-            rating: R::rating(&errand),
+            rating: Rating::of(worth, units),
         })
     }
 
