@@ -1,6 +1,7 @@
 -- A text that grows line by line.
 use Rattle.std.proofs.Common.{◌≡◌, ℕ, ◌+◌, ◌<◌, ◌≤◌, List, ◌++◌, length, get_or, drop, Some, Option, unwrap_or, sym, ap, ◌∙◌, add-one, arith}
 use Rattle.std.proofs.lemmas.List.{append_assoc, append-nil, at_drop_all, at_drop_more}
+use Rattle.dispatcher.proofs.Scripted.{no_entry}
 use Rattle.dispatcher.specs.Scripts.{trace_of}
 use Rattle.dispatcher.specs.declared.entries.Entry.{Entry}
 use Rattle.model.specs.Runs.{anyone, of_tick, total}
@@ -8,7 +9,6 @@ use Rattle.model.specs.Table.{response}
 use Rattle.model.specs.declared.calls.Answer.{Answer}
 use Rattle.model.specs.declared.calls.Answer.TheVariants.{Accepted, Withdrawn, Slack, Ticked, Refused}
 use Rattle.model.specs.declared.calls.Call.{Call}
-use Rattle.model.specs.declared.calls.Call.TheVariants.{Release}
 use Rattle.model.specs.declared.duties.Duty.{Duty}
 use Rattle.transcript.specs.Lines.{duty_line, event_line}
 use Rattle.transcript.specs.Renderings.{duty_lines, event_lines}
@@ -33,9 +33,6 @@ at_most_one (Withdrawn units) = omega arith
 at_most_one (Slack k) = omega arith
 at_most_one (Ticked slack who) = omega arith
 at_most_one (Refused why) = omega arith
-
-abbrev pub no_entry : Entry
-no_entry = record { call = Release 0; answer = Accepted }
 
 module _ (script : List Entry) (i : ℕ) where
   -- What happens from an entry on, and behind the last.

@@ -1,9 +1,10 @@
 use Rattle.std.proofs.Common.{ℕ, ◌+◌, ◌<◌, List, ◌++◌, length, get_or, drop, string_bytes, sym, ap, ◌∙◌, arith}
+use Rattle.dispatcher.proofs.Scripted.{no_entry}
 use Rattle.dispatcher.specs.Scripts.{trace_of}
 use Rattle.transcript.specs.Lines.{event_line}
 use Rattle.transcript.specs.Renderings.{event_lines}
 use Rattle.transcript.proofs.Growing.{part_more}
-use Rattle.transcript.proofs.Rendered.{at_most_one, events_all, events_more, no_entry}
+use Rattle.transcript.proofs.Rendered.{at_most_one, events_all, events_more}
 use Rattle.transcript.proofs.lines.write_events.Goals as goal
 
 pub loop-entry-preserved : goal.loop-entry-preserved
