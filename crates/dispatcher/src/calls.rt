@@ -1,7 +1,8 @@
 // The calls of a running dispatcher. Each answers and leaves what the machine's step says. That the table stays is a clause of
 // each: it is a fact of two states, and so no invariant of one.
 ghost use Rattle.std.specs.Prelude.{◌≡◌};
-ghost use Rattle.model.specs.Machine.{Requested, RowCalled, Step, Ticks, Withdraws, fresh, slack_of, waits};
+ghost use Rattle.model.specs.Histories.{GoesOn, by_call, by_put, by_take, by_tick};
+ghost use Rattle.model.specs.Machine.{Requested, RowCalled, Step, Ticks, Withdraws, fresh, slack_of, tick_answer, waits};
 ghost use Rattle.model.specs.declared.rows.RowCall.TheVariants.{Release, Done};
 ghost use Rattle.table.specs.Settings.{table_of};
 ghost use Rattle.dispatcher.specs.Views.{answer_of, duties, view};
@@ -47,6 +48,7 @@ impl<Q: Queue> Dispatcher<Q> {
     pub fn request(&mut self, errand: Errand) -> Result<(), Refusal>
         ensures step { Requested (view Q.meaning self.old) errand result (view Q.meaning self.new) }
         ensures table { duties self.new ≡ duties self.old }
+        ensures history { GoesOn Q.arises self.old.queue (by_put errand result) self.new.queue }
     {
         self.queue.put(errand)
     }
@@ -55,6 +57,7 @@ impl<Q: Queue> Dispatcher<Q> {
     pub fn withdraw(&mut self, number: u32) -> Result<u32, Refusal>
         ensures step { Withdraws (view Q.meaning self.old) number result (view Q.meaning self.new) }
         ensures table { duties self.new ≡ duties self.old }
+        ensures history { GoesOn Q.arises self.old.queue (by_take number result) self.new.queue }
     {
         self.queue.take(number)
     }
@@ -77,6 +80,7 @@ impl<Q: Queue> Dispatcher<Q> {
     pub fn tick(&mut self) -> Result<(u32, Who), Refusal>
         ensures step { Ticks (duties self.old) (view Q.meaning self.old) result (view Q.meaning self.new) }
         ensures table { duties self.new ≡ duties self.old }
+        ensures history { GoesOn Q.arises self.old.queue (by_tick (tick_answer result)) self.new.queue }
     {
         let errand_waits = self.errand_waits();
         let (slack, turn) = self.work.tick(errand_waits)?;
@@ -92,6 +96,7 @@ impl<Q: Queue> Dispatcher<Q> {
     pub fn carry_out(&mut self, call: Call) -> Answer
         ensures step { Step (duties self.old) (view Q.meaning self.old) call result (view Q.meaning self.new) }
         ensures table { duties self.new ≡ duties self.old }
+        ensures history { GoesOn Q.arises self.old.queue (by_call call result) self.new.queue }
     {
         self.accept(call).unwrap_or_else(Answer::Refused)
     }
@@ -100,6 +105,7 @@ impl<Q: Queue> Dispatcher<Q> {
     fn accept(&mut self, call: Call) -> Result<Answer, Refusal>
         ensures step { Step (duties self.old) (view Q.meaning self.old) call (answer_of result) (view Q.meaning self.new) }
         ensures table { duties self.new ≡ duties self.old }
+        ensures history { GoesOn Q.arises self.old.queue (by_call call (answer_of result)) self.new.queue }
     {
         let answer = match call {
             Call::Release(row) => {

@@ -9,6 +9,7 @@ pub mod Demand
 pub mod Extremes
 pub mod Found
 pub mod Futures
+pub mod Histories
 pub mod Keeping
 pub mod MachineExamples
 pub mod Missing

@@ -20,7 +20,7 @@ use Rattle.model.proofs.Stepping.{run_kept}
 use Rattle.model.proofs.Ticks.{turn_cases}
 
 -- A tick that goes as if no errand waited answers no errand.
-no_errand : (rows : List Row) → is_errand (duty_turn rows) ≡ false
+pub no_errand : (rows : List Row) → is_errand (duty_turn rows) ≡ false
 no_errand rows =
     ⊎_elim
     (λ (none, idle). rw (none, duty_turn))

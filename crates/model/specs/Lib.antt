@@ -1,5 +1,6 @@
 pub mod Always
 pub mod Futures
+pub mod Histories
 pub mod Idle
 pub mod Kept
 pub mod Machine

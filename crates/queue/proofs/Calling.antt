@@ -1,10 +1,10 @@
 -- What the calls on a line make of its meaning.
-use Rattle.std.proofs.Common.{◌≡◌, ℕ, suc, ◌+◌, ◌-◌, ◌<◌, ◌≤◌, Bool, true, false, cond, not, ◌&&◌, eqb, leb, pred, List, [], ◌∷◌, drop, set, is_some, Some, None, Ok, Err, Result, sym, refl, ap, ◌∙◌, subst, sub-one, arith}
+use Rattle.std.proofs.Common.{◌≡◌, ℕ, suc, ◌+◌, ◌-◌, ◌<◌, ◌≤◌, Bool, true, false, cond, not, ◌&&◌, eqb, leb, List, [], ◌∷◌, drop, set, is_some, Some, None, Ok, Err, Result, sym, refl, ap, ◌∙◌, subst, sub-one, arith}
 use lib.ListN.{length-map}
 use Rattle.std.specs.List.{slice_get, remove, position_or_len}
 use Rattle.std.specs.Option.{option_map}
 use Rattle.std.proofs.lemmas.Option.{slice_get-map}
-use Rattle.std.proofs.lemmas.Bool.{cond-true, cond-false, le-leb, lt-leb, le-ltb, leb-true, not_from_false, and_from, and_parts, ne_eqb}
+use Rattle.std.proofs.lemmas.Bool.{cond-true, cond-false, le-leb, lt-leb, le-ltb, leb-true, not_from_false, and_from, and_parts}
 use Rattle.model.specs.Queues.{Put, Spend, Take, Changes, look, distinct, errand_within, one_less}
 use Rattle.model.specs.Refusals.{told}
 use Rattle.model.specs.declared.errands.Errand.{Errand}
@@ -13,14 +13,13 @@ use Rattle.model.specs.declared.refusals.Refusal.TheVariants.{NotWaiting}
 use Rattle.list.specs.Held.{held, fits, Becomes, Inserts}
 use Rattle.list.specs.Order.{same_rank}
 use Rattle.list.specs.declared.ordered.OrderedList.{OrderedList}
-use Rattle.queue.specs.Arrivals.{ahead, served}
 use Rattle.queue.specs.Lines.{errands, line_meaning, place_of, first_number}
 use Rattle.queue.specs.Ranks.{ranks}
 use Rattle.queue.specs.Slots.{with_units}
 use Rattle.queue.specs.declared.slots.Slot.{Slot}
 use Rattle.queue.proofs.After.{spent, without}
 use Rattle.queue.proofs.Lookups.{numbered, place_is, look_at, waits_somewhere, waits_nowhere, look_number, first_once}
-use Rattle.queue.proofs.Changing.{look_first, removed_once, none_apart, none_behind}
+use Rattle.queue.proofs.Changing.{look_first, removed_once}
 use Rattle.queue.proofs.Meanings.{errands_removed, refused_waits, refused_full, refused_not, placed_changes, removed_changes, first_changes}
 
 -- The first slot, if there is one.
@@ -139,15 +138,6 @@ unit_spent l m s t e took at is units new fit done once =
 pub once_spent : {R : _} (l m : OrderedList Slot R) (n : ℕ) → UnitSpent l n m → distinct (errands (held m)) ≡ true
 once_spent l m n done = done.spends.1.2.sound.each_once
 
-pub errands_spent : (ss : List Slot) → errands (spent ss) ≡ served (errands ss)
-errands_spent [] = refl
-errands_spent (s ∷ ss) =
-    elim (leb s.errand.units 1)
-    as (λ b.
-    errands (cond b ss (with_units s (s.errand.units - 1) ∷ ss))
-    ≡ ahead (cond b None (Some (with_units s (pred s.errand.units)).errand)) (errands ss))
-    [ true ↦ refl | false ↦ ap (λ units. (with_units s units).errand ∷ errands ss) (sub-one s.errand.units) ]
-
 -- Take
 without_place : (n : ℕ) (ss : List Slot) → remove ss (position_or_len (numbered n) ss) ≡ without n ss
 without_place n [] = refl
@@ -159,12 +149,6 @@ without_place n (s ∷ ss) =
 
 pub without_is : (n : ℕ) (ss : List Slot) (i : ℕ) → place_of n ss ≡ Some i → remove ss i ≡ without n ss
 without_is n ss i at = ap (remove ss) (sym (place_is n ss i at)) ∙ without_place n ss
-
-without_none : (n : ℕ) (ss : List Slot) → look (errands ss) n ≡ None → without n ss ≡ ss
-without_none n [] none = refl
-without_none n (s ∷ ss) none =
-    cond-false _ _ _ (ne_eqb _ _ (none_apart s.errand (errands ss) n none))
-    ∙ ap (λ xs. s ∷ xs) (without_none n ss (none_behind s.errand (errands ss) n none))
 
 pub take_found : {R : _} (l m : OrderedList Slot R) (n i : ℕ) (s : Slot) (e : Errand) → place_of n (held l) ≡ Some i →
     slice_get (held l) i ≡ Some s → e ≡ s.errand → Becomes l (remove (held l) i) m → distinct (errands (held l)) ≡ true →
@@ -185,9 +169,6 @@ pub take_missing : {R : _} (l : OrderedList Slot R) (n : ℕ) (r : Result ℕ Re
     r ≡ Err NotWaiting → Take (line_meaning l) n r (line_meaning l)
 take_missing l n r none is =
     subst (λ k. Take (line_meaning l) n k (line_meaning l)) (sym is) (waits_nowhere n (held l) (ap is_some none), refl, refl)
-
-pub without_missing : (n : ℕ) (ss : List Slot) → place_of n ss ≡ None → without n ss ≡ ss
-without_missing n ss none = without_none n ss (waits_nowhere n ss (ap is_some none))
 
 -- Each errand still waits once after one was dropped.
 pub once_removed : {R : _} (l m : OrderedList Slot R) (i : ℕ) → Becomes l (remove (held l) i) m →

@@ -1,37 +1,19 @@
--- Slots that join a line in order of arrival: which is first, and what becomes of the line as slots change or leave.
-use Rattle.std.proofs.Common.{◌≡◌, ℕ, ◌-◌, Bool, true, false, cond, ◌&&◌, eqb, leb, List, [], ◌∷◌, ◌++◌, Some, None, Ok, Err, Option, Result, sym, refl, ap, ◌∙◌, ⊎_elim, append_assoc, append-nil}
+-- Slots that join a line in order of arrival, and what becomes of the line as slots change or leave.
+use Rattle.std.proofs.Common.{◌≡◌, ℕ, ◌-◌, Bool, true, false, cond, ◌&&◌, eqb, leb, List, [], ◌∷◌, ◌++◌, Some, None, Option, sym, refl, ap, ◌∙◌, ⊎_elim}
 use Rattle.std.proofs.lemmas.Bool.{cond-true, cond-false, cond_both, and_from, and_parts, not-true, cases_Bool, eq-eqb, ne_eqb, eqb-true}
-use Rattle.model.specs.Queues.{Spend, look, distinct}
-use Rattle.model.specs.declared.errands.Errand.{Errand}
-use Rattle.model.specs.declared.refusals.Refusal.{Refusal}
-use Rattle.list.specs.Held.{held, Inserts}
-use Rattle.list.specs.declared.ordered.OrderedList.{OrderedList}
+use Rattle.model.specs.Queues.{look, distinct}
 use Rattle.list.specs.Order.{none_before, sorted, placed}
 use Rattle.list.proofs.Sorting.{placed_keeps_sorted}
-use Rattle.queue.specs.Lines.{errands, line_meaning, first_number}
+use Rattle.queue.specs.Lines.{errands, first_number}
 use Rattle.queue.specs.Ranks.{ranks, ranks_strict, ranks_chain}
 use Rattle.queue.specs.Ratings.{outrates}
-use Rattle.queue.specs.Slots.{Holds, with_units}
-use Rattle.queue.specs.Orders.{best_from, best, joining, before_all, each_to, gone, worked, after_spend, Stands, Joins}
+use Rattle.queue.specs.Slots.{with_units}
+use Rattle.queue.specs.Arrivals.{before_all, each_to}
+use Rattle.queue.specs.Orders.{joining}
 use Rattle.queue.specs.declared.slots.Slot.{Slot}
-use Rattle.queue.proofs.After.{spent, without}
+use Rattle.queue.proofs.After.{gone_slot, spent, without, worked_slot}
 use Rattle.queue.proofs.Changing.{none_apart, none_behind}
 use Rattle.queue.proofs.Lookups.{first_once}
-
--- The first of a line that b leads is the best of b and of those that join.
-first_joining : (b : Slot) (line came : List Slot) →
-    first_number (errands (joining (b ∷ line) came)) ≡ Some (best_from b came).errand.number
-first_joining b line [] = refl
-first_joining b line (s ∷ came) =
-    elim (ranks s b)
-    as (λ t.
-    first_number (errands (joining (cond t (s ∷ b ∷ line) (b ∷ placed ranks s line)) came))
-    ≡ Some (best_from (cond t s b) came).errand.number)
-    [ true ↦ first_joining s (b ∷ line) came | false ↦ first_joining b (placed ranks s line) came ]
-
-pub first_is_best : (came : List Slot) → first_number (errands (joining [] came)) ≡ best came
-first_is_best [] = refl
-first_is_best (s ∷ came) = first_joining s [] came
 
 pub joining_push : (line came : List Slot) (s : Slot) → joining line (came ++ s ∷ []) ≡ placed ranks s (joining line came)
 joining_push line [] s = refl
@@ -126,19 +108,19 @@ untouched turn n others (s ∷ ss) none =
     ap (λ o. before_all o (each_to turn ss)) (others s (none_apart s.errand (errands ss) n none))
     ∙ ap (λ ys. s ∷ ys) (untouched turn n others ss (none_behind s.errand (errands ss) n none))
 
-gone_others : (n : ℕ) (s : Slot) → (s.errand.number ≡ n → ⊥) → gone n s ≡ Some s
+gone_others : (n : ℕ) (s : Slot) → (s.errand.number ≡ n → ⊥) → gone_slot n s ≡ Some s
 gone_others n s apart = cond-false _ _ _ (ne_eqb _ _ apart)
 
-worked_others : (n : ℕ) (s : Slot) → (s.errand.number ≡ n → ⊥) → worked n s ≡ Some s
+worked_others : (n : ℕ) (s : Slot) → (s.errand.number ≡ n → ⊥) → worked_slot n s ≡ Some s
 worked_others n s apart = cond-false _ _ _ (ne_eqb _ _ apart)
 
-pub gone_keeps : (n : ℕ) → Keeps (gone n)
+pub gone_keeps : (n : ℕ) → Keeps (gone_slot n)
 gone_keeps n s t =
     cond_both (eqb s.errand.number n) None (Some s) (λ o. o ≡ Some t → t.rating ≡ s.rating)
     (λ _ e. cc)
     (λ _ e. let same : s ≡ t = cc in ap (λ x. x.rating) (sym same))
 
-pub worked_keeps : (n : ℕ) → Keeps (worked n)
+pub worked_keeps : (n : ℕ) → Keeps (worked_slot n)
 worked_keeps n s t =
     let less = with_units s (s.errand.units - 1) in
     let P : Option Slot → Type 0 = λ o. o ≡ Some t → t.rating ≡ s.rating in
@@ -149,77 +131,33 @@ worked_keeps n s t =
     (λ _ e. let same : less ≡ t = cc in ap (λ x. x.rating) (sym same)))
     (λ _ e. let same : s ≡ t = cc in ap (λ x. x.rating) (sym same))
 
-pub without_is_gone : (n : ℕ) (ss : List Slot) → distinct (errands ss) ≡ true → without n ss ≡ each_to (gone n) ss
+pub without_is_gone : (n : ℕ) (ss : List Slot) → distinct (errands ss) ≡ true → without n ss ≡ each_to (gone_slot n) ss
 without_is_gone n [] once = refl
 without_is_gone n (s ∷ ss) once =
     let f = first_once s.errand (errands ss) once in
     (elim (eqb s.errand.number n)
     as (λ b. eqb s.errand.number n ≡ b →
-    cond b ss (s ∷ without n ss) ≡ before_all (cond b None (Some s)) (each_to (gone n) ss)) [
+    cond b ss (s ∷ without n ss) ≡ before_all (cond b None (Some s)) (each_to (gone_slot n) ss)) [
       | true ↦ λ e.
-          sym (untouched (gone n) n (gone_others n) ss (ap (look (errands ss)) (sym (eqb-true _ _ e)) ∙ f.alone))
+          sym (untouched (gone_slot n) n (gone_others n) ss (ap (look (errands ss)) (sym (eqb-true _ _ e)) ∙ f.alone))
       | false ↦ λ _. ap (λ ys. s ∷ ys) (without_is_gone n ss f.rest)
     ])
     refl
 
 pub spent_is_worked : (n : ℕ) (ss : List Slot) → first_number (errands ss) ≡ Some n → distinct (errands ss) ≡ true →
-    spent ss ≡ each_to (worked n) ss
+    spent ss ≡ each_to (worked_slot n) ss
 spent_is_worked n [] named once = cc
 spent_is_worked n (s ∷ ss) named once =
     let f = first_once s.errand (errands ss) once in
     let same : s.errand.number ≡ n = cc in
-    let rest = untouched (worked n) n (worked_others n) ss (ap (look (errands ss)) (sym same) ∙ f.alone) in
+    let rest = untouched (worked_slot n) n (worked_others n) ss (ap (look (errands ss)) (sym same) ∙ f.alone) in
     let less = with_units s (s.errand.units - 1) in
     (elim (leb s.errand.units 1)
     as (λ b. cond b ss (less ∷ ss) ≡ before_all (cond b None (Some less)) ss) [ true ↦ refl | false ↦ refl ])
     ∙ sym
-    (ap (λ o. before_all o (each_to (worked n) ss)) (cond-true _ _ _ (eq-eqb _ _ same))
+    (ap (λ o. before_all o (each_to (worked_slot n) ss)) (cond-true _ _ _ (eq-eqb _ _ same))
     ∙ ap (before_all (cond (leb s.errand.units 1) None (Some less))) rest)
 
-nothing_spent : (ss : List Slot) → first_number (errands ss) ≡ None → ss ≡ spent ss
+pub nothing_spent : (ss : List Slot) → first_number (errands ss) ≡ None → ss ≡ spent ss
 nothing_spent [] none = refl
 nothing_spent (s ∷ ss) none = cc
-
--- The calls, for any order of arrival.
-pub stands_put : {X : Type 0} {R : _} (worth units : Errand → ℕ) (l m : OrderedList Slot R) (s : Slot) (e : Errand)
-    (r : Result X Refusal) → Holds e (worth e) (units e) s → Inserts ranks l s r m → (came : List Slot) → Stands came (held l) →
-    Joins worth units came e r (held m)
-stands_put worth units l m s e (Ok x) holds done came stands =
-    (s, holds, done.1.holds ∙ ap (placed ranks s) stands ∙ sym (joining_push [] came s))
-stands_put worth units l m s e (Err why) holds done came stands = ap held done.2 ∙ stands
-
-pub stands_spend : {R : _} (l m : OrderedList Slot R) (r : Option ℕ) → Spend (line_meaning l) r (line_meaning m) →
-    distinct (errands (held l)) ≡ true → held m ≡ spent (held l) → (came : List Slot) → Stands came (held l) →
-    Stands (after_spend r came) (held m)
-stands_spend l m None spends once is came stands = is ∙ sym (nothing_spent (held l) spends.0) ∙ stands
-stands_spend l m (Some n) spends once is came stands =
-    is ∙ spent_is_worked n (held l) spends.0 once ∙ ap (each_to (worked n)) stands
-    ∙ each_joining (worked n) (worked_keeps n) [] came refl
-
-pub stands_take : {R : _} (l m : OrderedList Slot R) (n : ℕ) → distinct (errands (held l)) ≡ true → held m ≡ without n (held l) →
-    (came : List Slot) → Stands came (held l) → Stands (each_to (gone n) came) (held m)
-stands_take l m n once is came stands =
-    is ∙ without_is_gone n (held l) once ∙ ap (each_to (gone n)) stands
-    ∙ each_joining (gone n) (gone_keeps n) [] came refl
-
--- A line in order is that of its own slots, had they arrived in that order.
-not_before : (x s : Slot) (line rest : List Slot) → none_before ranks x (line ++ s ∷ rest) ≡ true → ranks s x ≡ false
-not_before x s [] rest h = not-true _ (and_parts _ _ h).0
-not_before x s (y ∷ line) rest h = not_before x s line rest (and_parts _ _ h).1
-
-placed_behind : (s : Slot) (line rest : List Slot) → sorted ranks (line ++ s ∷ rest) ≡ true →
-    placed ranks s line ≡ line ++ s ∷ []
-placed_behind s [] rest h = refl
-placed_behind s (x ∷ line) rest h =
-    let p = and_parts _ _ h in
-    cond-false _ _ _ (not_before x s line rest p.0) ∙ ap (λ ys. x ∷ ys) (placed_behind s line rest p.1)
-
-joining_in_order : (line rest : List Slot) → sorted ranks (line ++ rest) ≡ true → joining line rest ≡ line ++ rest
-joining_in_order line [] h = sym (append-nil line)
-joining_in_order line (s ∷ rest) h =
-    let regroup = append_assoc line (s ∷ []) rest in
-    ap (λ ys. joining ys rest) (placed_behind s line rest h)
-    ∙ (joining_in_order (line ++ s ∷ []) rest (ap (sorted ranks) regroup ∙ h) ∙ regroup)
-
-pub stands_for_itself : (line : List Slot) → sorted ranks line ≡ true → Stands line line
-stands_for_itself line h = sym (joining_in_order [] line h)

@@ -1,7 +1,8 @@
 mod After
-mod Arriving
+mod Arising
 mod Calling
 mod Changing
+pub mod Earliest
 mod Joining
 mod Lookups
 mod Meanings

@@ -1,24 +1,87 @@
--- What the calls make of the errands of a line, the first in line first.
-use Rattle.std.specs.Prelude.{◌≡◌, ℕ, cond, List, [], ◌∷◌, ◌++◌, Some, None, Ok, Err, Option, Result, ◌==◌}
+-- The errands that wait in order of arrival, and by which choice one of them is served next. All of it is reckoned
+-- from a queue's history alone.
+use Rattle.std.specs.Prelude.{ℕ, ◌*◌, Bool, cond, List, [], ◌∷◌, ◌++◌, map, Some, None, Option, ◌==◌, nat_lt}
+use Rattle.std.specs.Option.{option_map}
+use Rattle.model.specs.Histories.{Choice, Event, History, was_put, was_spent, was_taken}
 use Rattle.model.specs.Queues.{one_less}
 use Rattle.model.specs.declared.errands.Errand.{Errand}
-use Rattle.model.specs.declared.refusals.Refusal.{Refusal}
 
--- An errand that is put arrives behind all others.
-abbrev pub Arrives : {X : Type 0} → List Errand → Errand → Result X Refusal → List Errand → Type 0
-Arrives es e (Ok x) es' = es' ≡ es ++ e ∷ []
-Arrives es e (Err why) es' = es' ≡ es
+-- An errand that arrived and waits: as it was put, and as it waits, with its units left.
+pub record Arrival : Type 0 where
+  pub put : Errand
+  pub waits : Errand
 
-abbrev pub ahead : Option Errand → List Errand → List Errand
-ahead None es = es
-ahead (Some e) es = e ∷ es
+-- What is left of one, if anything, and then the others.
+abbrev pub before_all : {E : Type 0} → Option E → List E → List E
+before_all None xs = xs
+before_all (Some x) xs = x ∷ xs
 
--- A unit is spent on the first, which stays first until its last.
-abbrev pub served : List Errand → List Errand
-served [] = []
-served (e ∷ es) = ahead (one_less e) es
+-- Each turned into another, or dropped; none changes its place among the others.
+abbrev pub each_to : {E : Type 0} → (E → Option E) → List E → List E
+each_to turn [] = []
+each_to turn (x ∷ xs) = before_all (turn x) (each_to turn xs)
 
--- The errand of a number leaves, and the others stay in their order.
-abbrev pub leaving : ℕ → List Errand → List Errand
-leaving n [] = []
-leaving n (e ∷ es) = cond (e.number == n) es (e ∷ leaving n es)
+-- The errand of the number n is gone.
+abbrev pub gone : ℕ → Arrival → Option Arrival
+gone n a = cond (a.waits.number == n) None (Some a)
+
+-- The errand of the number n has one unit less, and is gone where that was its last.
+abbrev pub worked : ℕ → Arrival → Option Arrival
+worked n a =
+    cond (a.waits.number == n) (option_map (λ e. record { put = a.put; waits = e }) (one_less a.waits)) (Some a)
+
+-- What waits after one event more: what was put arrives last.
+abbrev pub after : List Arrival → Event → List Arrival
+after came (was_put e) = came ++ record { put = e; waits = e } ∷ []
+after came (was_spent n) = each_to (worked n) came
+after came (was_taken n) = each_to (gone n) came
+
+-- What waits after all that happened, the oldest event first.
+abbrev pub after_all : List Arrival → History → List Arrival
+after_all came [] = came
+after_all came (x ∷ xs) = after_all (after came x) xs
+
+-- What waits after a history, the errand that was put earliest first.
+abbrev pub arrived : History → List Arrival
+arrived past = after_all [] past
+
+-- The number of the first of them.
+abbrev pub first_of : List Arrival → Option ℕ
+first_of [] = None
+first_of (a ∷ came) = Some a.waits.number
+
+-- The choice of the first-come queue: of those that wait, the one that was put earliest.
+abbrev pub earliest : Choice
+earliest past = first_of (arrived past)
+
+-- An errand that waits, rated by a worth for so many units.
+pub record Rated : Type 0 where
+  pub errand : Errand
+  pub worth : ℕ
+  pub units : ℕ
+
+-- What arrived, rated by a worth and by units that are reckoned from the errand as it was put.
+abbrev pub rated : (Errand → ℕ) → (Errand → ℕ) → Arrival → Rated
+rated worth units a = record { errand = a.waits; worth = worth a.put; units = units a.put }
+
+-- a has more worth for a unit than b: worth of a × units of b exceeds worth of b × units of a.
+abbrev pub better : Rated → Rated → Bool
+better a b = nat_lt (b.worth * a.units) (a.worth * b.units)
+
+-- The best of b and of those that arrived after it, one by one: a later one only if it is better than the best before.
+abbrev pub best_from : Rated → List Rated → Rated
+best_from b [] = b
+best_from b (a ∷ came) = best_from (cond (better a b) a b) came
+
+-- The number of the best of them, on a tie of the one that arrived earliest.
+abbrev pub best_of : List Rated → Option ℕ
+best_of [] = None
+best_of (a ∷ came) = Some (best_from a came).errand.number
+
+-- The choice of a queue that rates: of those that wait, the best rated, on a tie the one that was put earlier.
+abbrev pub best_rated : (Errand → ℕ) → (Errand → ℕ) → Choice
+best_rated worth units past = best_of (map (rated worth units) (arrived past))
+
+-- The choice of the worth queue: the best by the worth for the units that it was put with.
+abbrev pub best_worth : Choice
+best_worth = best_rated (λ e. e.worth) (λ e. e.units)

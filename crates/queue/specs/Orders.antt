@@ -1,56 +1,48 @@
--- Which of the errands in their order of arrival is served next.
-use Rattle.std.specs.Prelude.{◌≡◌, ℕ, ◌-◌, cond, List, [], ◌∷◌, ◌++◌, Some, None, Ok, Err, Option, Result, ◌==◌, nat_le}
+-- By which histories the line of a queue can have come about, and that the queue then names the errand of its choice.
+use Rattle.std.specs.Prelude.{◌≡◌, ℕ, true, false, cond, List, [], ◌∷◌, map, Some, refl}
+use Rattle.std.proofs.Common.{ap, ◌∙◌}
+use Rattle.model.specs.Histories.{History}
 use Rattle.model.specs.declared.errands.Errand.{Errand}
-use Rattle.model.specs.declared.refusals.Refusal.{Refusal}
+use Rattle.list.specs.Held.{held}
 use Rattle.list.specs.Order.{placed}
+use Rattle.list.specs.declared.ordered.OrderedList.{OrderedList}
+use Rattle.queue.specs.Arrivals.{Rated, arrived, best_from, best_of, best_rated, rated}
+use Rattle.queue.specs.Lines.{errands, first_number, line_meaning}
 use Rattle.queue.specs.Ranks.{ranks}
-use Rattle.queue.specs.Slots.{Holds, with_units}
 use Rattle.queue.specs.declared.slots.Slot.{Slot}
 
--- The best of b and of slots that arrived after it, one by one: a later one only if it outrates the best before.
-abbrev pub best_from : Slot → List Slot → Slot
-best_from b [] = b
-best_from b (s ∷ ss) = best_from (cond (ranks s b) s b) ss
-
--- The number of the best rated of slots in order of arrival, on a tie of the one that arrived earliest.
-abbrev pub best : List Slot → Option ℕ
-best [] = None
-best (s ∷ ss) = Some (best_from s ss).errand.number
+-- The errand of a slot, with its rating.
+abbrev pub rated_in : Slot → Rated
+rated_in s = record { errand = s.errand; worth = s.rating.worth; units = s.rating.units }
 
 -- Slots in order of arrival, joining a line one by one, each before the first that it outrates.
 abbrev pub joining : List Slot → List Slot → List Slot
 joining line [] = line
 joining line (s ∷ ss) = joining (placed ranks s line) ss
 
--- The line is that of slots that arrived in the order `came`.
-abbrev pub Stands : List Slot → List Slot → Type 0
-Stands came line = line ≡ joining [] came
+-- After a history a line can hold the slots of those that arrived, rated by a worth for so many units as a rule reckons both,
+-- had they joined it in order of arrival.
+pub record Arises (worth units : Errand → ℕ) (past : History) (line : List Slot) : Type 0 where
+  pub came : List Slot
+  pub stands : line ≡ joining [] came
+  pub arrivals : map rated_in came ≡ map (rated worth units) (arrived past)
 
--- An errand that is put arrives last, rated by its worth for its units, as a rule reckons both.
-abbrev pub Joins : {X : Type 0} → (Errand → ℕ) → (Errand → ℕ) → List Slot → Errand → Result X Refusal → List Slot → Type 0
-Joins worth units came e (Ok x) line = (s : Slot) × Holds e (worth e) (units e) s × Stands (came ++ s ∷ []) line
-Joins worth units came e (Err why) line = Stands came line
+-- The first of a line that b leads is the best of b and of those that join.
+first_joining : (b : Slot) (line came : List Slot) →
+    first_number (errands (joining (b ∷ line) came)) ≡ Some (best_from (rated_in b) (map rated_in came)).errand.number
+first_joining b line [] = refl
+first_joining b line (s ∷ came) =
+    elim (ranks s b)
+    as (λ t.
+    first_number (errands (joining (cond t (s ∷ b ∷ line) (b ∷ placed ranks s line)) came))
+    ≡ Some (best_from (cond t (rated_in s) (rated_in b)) (map rated_in came)).errand.number)
+    [ true ↦ first_joining s (b ∷ line) came | false ↦ first_joining b (placed ranks s line) came ]
 
-abbrev pub before_all : Option Slot → List Slot → List Slot
-before_all None ss = ss
-before_all (Some s) ss = s ∷ ss
+first_is_best : (came : List Slot) → first_number (errands (joining [] came)) ≡ best_of (map rated_in came)
+first_is_best [] = refl
+first_is_best (s ∷ came) = first_joining s [] came
 
--- Each slot turned into another, or dropped; none changes its place among the others.
-abbrev pub each_to : (Slot → Option Slot) → List Slot → List Slot
-each_to turn [] = []
-each_to turn (s ∷ ss) = before_all (turn s) (each_to turn ss)
-
--- The slot of the number n is gone.
-abbrev pub gone : ℕ → Slot → Option Slot
-gone n s = cond (s.errand.number == n) None (Some s)
-
--- The slot of the number n has one unit less, and is gone where that was its last.
-abbrev pub worked : ℕ → Slot → Option Slot
-worked n s =
-    cond (s.errand.number == n)
-    (cond (nat_le s.errand.units 1) None (Some (with_units s (s.errand.units - 1)))) (Some s)
-
--- The slots in order of arrival after a unit was spent on the number that was named.
-abbrev pub after_spend : Option ℕ → List Slot → List Slot
-after_spend None came = came
-after_spend (Some n) came = each_to (worked n) came
+pub line_chooses : {R : _} (worth units : Errand → ℕ) (past : History) (l : OrderedList Slot R) →
+    Arises worth units past (held l) → (line_meaning l).named ≡ best_rated worth units past
+line_chooses worth units past l arose =
+    ap (λ ss. first_number (errands ss)) arose.stands ∙ first_is_best arose.came ∙ ap best_of arose.arrivals

@@ -1,10 +1,10 @@
-ghost use Rattle.std.specs.Prelude.{◌≡◌, true, min, List, [], length, take};
+ghost use Rattle.std.specs.Prelude.{◌≡◌, true, min, [], length, take};
+ghost use Rattle.model.specs.Histories.{GoesOn, by_put, by_spend, by_take};
 ghost use Rattle.model.specs.Queues.{distinct, Put, Spend, Take};
 ghost use Rattle.list.specs.Held.{held, places};
-ghost use Rattle.queue.specs.Arrivals.{served, leaving, Arrives};
+ghost use Rattle.queue.specs.Arrivals.{best_rated};
 ghost use Rattle.queue.specs.Lines.{errands, line_meaning, line_sound, first_number, place_of, KeptIfNone, KeptIfRefused};
-ghost use Rattle.queue.specs.Orders.{best, each_to, gone, after_spend, Stands, Joins};
-ghost use Rattle.queue.specs.declared.slots.Slot.{Slot as Place};
+ghost use Rattle.queue.specs.Orders.{Arises, line_chooses};
 
 use super::queues::Queue;
 use super::rules::{Alike, Rule, WorthForUnits};
@@ -51,6 +51,7 @@ impl<'a, R: Rule> ErrandQueue<'a, R> {
     // An empty queue over the slots, of which it uses at most the first 1,024.
     pub fn new(slots: &'a mut [Slot]) -> ErrandQueue<'a, R>
         ensures empty { held result.line ≡ [] }
+        ensures history { Arises R.worth R.units [] (held result.line) }
         ensures size { places result.line ≡ min (length slots.old) 1024 }
         ensures slots { result.line.slots.now ≡ take 1024 slots.old }
     {
@@ -61,17 +62,20 @@ impl<'a, R: Rule> ErrandQueue<'a, R> {
     }
 }
 
-// What each call does is said of the errands in the order in which they are served, and of the slots in every order of
-// arrival that the line can stand for; there is always one.
 impl<'a, R: Rule> Queue for ErrandQueue<'a, R> {
     ghost meaning = { λ q. line_meaning q.line };
 
     ghost sound = { λ q. line_sound q.line q.once };
 
+    ghost arises = { λ past q. Arises R.worth R.units past (held q.line) };
+
+    ghost choice = { best_rated R.worth R.units };
+
+    ghost chooses = { λ past q arose. line_chooses R.worth R.units past q.line arose };
+
     fn put(&mut self, errand: Errand) -> Result<(), Refusal>
         ensures means { Put (line_meaning self.old.line) errand result (line_meaning self.new.line) }
-        ensures joins { (came : List Place) → Stands came (held self.old.line) → Joins R.worth R.units came errand result (held self.new.line) }
-        ensures arrives { R.worth errand ≡ 0 → Arrives (errands (held self.old.line)) errand result (errands (held self.new.line)) }
+        ensures history { GoesOn (Arises R.worth R.units) (held self.old.line) (by_put errand result) (held self.new.line) }
         ensures kept { KeptIfRefused self.old.line result self.new.line }
     {
         let slot = Slot::rated::<R>(errand)?;
@@ -82,9 +86,7 @@ impl<'a, R: Rule> Queue for ErrandQueue<'a, R> {
     }
 
     fn name(&self) -> Option<u32>
-        ensures means { result ≡ first_number (errands (held self.now.line)) }
-        ensures some_order { Stands (held self.now.line) (held self.now.line) }
-        ensures best { (came : List Place) → Stands came (held self.now.line) → result ≡ best came }
+        ensures { result ≡ first_number (errands (held self.now.line)) }
     {
         self.line.get(0).map(|slot| slot.errand().number)
     }
@@ -92,8 +94,7 @@ impl<'a, R: Rule> Queue for ErrandQueue<'a, R> {
     // The errand is dropped with its last unit.
     fn spend(&mut self) -> Option<u32>
         ensures means { Spend (line_meaning self.old.line) result (line_meaning self.new.line) }
-        ensures serves { errands (held self.new.line) ≡ served (errands (held self.old.line)) }
-        ensures stands { (came : List Place) → Stands came (held self.old.line) → Stands (after_spend result came) (held self.new.line) }
+        ensures history { GoesOn (Arises R.worth R.units) (held self.old.line) (by_spend result) (held self.new.line) }
         ensures kept { KeptIfNone self.old.line result self.new.line }
     {
         let slot = self.line.get(0)?;
@@ -108,8 +109,7 @@ impl<'a, R: Rule> Queue for ErrandQueue<'a, R> {
 
     fn take(&mut self, number: u32) -> Result<u32, Refusal>
         ensures means { Take (line_meaning self.old.line) number result (line_meaning self.new.line) }
-        ensures leaves { errands (held self.new.line) ≡ leaving number (errands (held self.old.line)) }
-        ensures stands { (came : List Place) → Stands came (held self.old.line) → Stands (each_to (gone number) came) (held self.new.line) }
+        ensures history { GoesOn (Arises R.worth R.units) (held self.old.line) (by_take number result) (held self.new.line) }
         ensures kept { KeptIfRefused self.old.line result self.new.line }
     {
         let place = place_of(self.line.entries(), number).ok_or(Refusal::NotWaiting)?;

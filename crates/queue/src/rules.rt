@@ -1,7 +1,9 @@
 ghost use Rattle.std.specs.Prelude.{◌≡◌, ℕ, ◌≤◌, true};
 ghost use Rattle.std.proofs.Common.{arith};
+ghost use Rattle.model.specs.Histories.{History};
 ghost use Rattle.model.specs.Queues.{errand_within};
 ghost use Rattle.model.specs.declared.errands.Errand.{Errand as Request};
+ghost use Rattle.queue.specs.Arrivals.{best_rated, best_worth, earliest};
 ghost use Rattle.queue.specs.Slots.{some_units};
 
 use model::Errand;
@@ -51,10 +53,8 @@ impl Rule for WorthForUnits {
     }
 }
 
-// The two rules rate as they are named. So every errand arrives behind all others in a queue by `Alike`, as one without worth
-// does in any queue.
+// By the two rules a queue names the errand put earliest, and the one with the most worth for the units put.
 pub fn rules_as_named()
-    ensures alike { (errand : Request) → ⟦<Alike as Rule>⟧.worth errand ≡ 0 }
-    ensures worth { (errand : Request) → ⟦<WorthForUnits as Rule>⟧.worth errand ≡ errand.worth }
-    ensures units { (errand : Request) → ⟦<WorthForUnits as Rule>⟧.units errand ≡ errand.units }
+    ensures alike { (past : History) → best_rated ⟦<Alike as Rule>⟧.worth ⟦<Alike as Rule>⟧.units past ≡ earliest past }
+    ensures worth { (past : History) → best_rated ⟦<WorthForUnits as Rule>⟧.worth ⟦<WorthForUnits as Rule>⟧.units past ≡ best_worth past }
 {}

@@ -3,6 +3,7 @@ use Rattle.std.proofs.Common.{◌≡◌, ℕ, ◌+◌, List, [], ◌∷◌, ◌+
 use Rattle.dispatcher.specs.Scripts.{calls_of, trace_of}
 use Rattle.dispatcher.specs.declared.entries.Entry.{Entry}
 use Rattle.model.proofs.Totals.{totals_balance}
+use Rattle.model.specs.Histories.{Chosen}
 use Rattle.model.specs.Machine.{State}
 use Rattle.model.specs.Queues.{Sound, distinct, names_right}
 use Rattle.model.specs.Runs.{Trace}
@@ -13,7 +14,7 @@ use Rattle.model.specs.declared.errands.Errand.{Errand}
 use Rattle.sheet.specs.Sheets.{Set}
 use Rattle.transcript.specs.Renderings.{duty_lines, left_over, run_lines}
 use Rattle.transcript.specs.Schedules.{script_of}
-use Rattle.transcript.specs.Transcripts.{Ran, Transcript, called}
+use Rattle.transcript.specs.Transcripts.{Ran, Transcript, called, choice_of}
 
 module _ (table : List Duty) (trace : Trace) (end : State) (ran : Ran table trace end) where
   starts_sound : Sound ran.start
@@ -39,16 +40,18 @@ called_script (e ∷ es) = ap (λ (cs : List Call). e.call ∷ cs) (called_scrip
 -- The parts of a transcript, put together.
 pub transcript_of : (s : Set) (script : List Entry) (end : State) (start duties out : List ℕ)
     → Ran s.table (trace_of script) end
+    → Chosen (choice_of s.queue) [] (trace_of script)
     → calls_of script ≡ script_of s.ats s.ticks
     → start ≡ []
     → duties ≡ start ++ duty_lines s.table (length s.table)
     → out ≡ duties ++ run_lines (trace_of script) (left_over (trace_of script))
     → Transcript s out
-transcript_of s script end start duties out ran calls nothing rows run =
+transcript_of s script end start duties out ran chosen calls nothing rows run =
     record {
       trace = trace_of script;
       end = end;
       ran = ran;
+      chosen = chosen;
       calls = called_script script ∙ calls;
       shows =
           run

@@ -1,5 +1,6 @@
 -- What is printed of a text: its fault, or the rendering of a run of the sheet that it is.
 use Rattle.std.specs.Prelude.{◌≡◌, ℕ, List, [], map, None, Ok, Err, Result}
+use Rattle.model.specs.Histories.{Choice, Chosen}
 use Rattle.model.specs.Machine.{State}
 use Rattle.model.specs.Promise.{Promise}
 use Rattle.model.specs.Queues.{Meaning}
@@ -7,8 +8,11 @@ use Rattle.model.specs.Runs.{Trace}
 use Rattle.model.specs.declared.calls.Answer.{Answer}
 use Rattle.model.specs.declared.calls.Call.{Call}
 use Rattle.model.specs.declared.duties.Duty.{Duty}
+use Rattle.queue.specs.Arrivals.{best_worth, earliest}
 use Rattle.sheet.specs.Sheets.{Set, sheet_of}
 use Rattle.forms.specs.Faults.{Fault}
+use Rattle.forms.specs.declared.sayings.QueueName.{QueueName}
+use Rattle.forms.specs.declared.sayings.QueueName.TheVariants.{First, Worth}
 use Rattle.transcript.specs.Lines.{fault_line}
 use Rattle.transcript.specs.Renderings.{rendered}
 use Rattle.transcript.specs.Schedules.{script_of}
@@ -26,11 +30,19 @@ pub record Ran (table : List Duty) (trace : Trace) (end : State) : Type 0 where
   pub roomy : start.places ≡ 64
   pub promise : Promise table start trace end
 
--- A text is printed of a sheet: the calls of the sheet's script were run over its table, and this is the run's rendering.
+-- The choice of a queue by its name: of the errands that wait, `first` serves the one that was put earliest, and `worth` the one
+-- with the most worth for the units that it was put with, on a tie the one that was put earlier.
+abbrev pub choice_of : QueueName → Choice
+choice_of First = earliest
+choice_of Worth = best_worth
+
+-- A text is printed of a sheet: the calls of the sheet's script were run over its table, each tick that an errand had went to the
+-- one that the sheet's queue chooses after the calls and answers before it, and this is the run's rendering.
 pub record Transcript (s : Set) (out : List ℕ) : Type 0 where
   pub trace : Trace
   pub end : State
   pub ran : Ran s.table trace end
+  pub chosen : Chosen (choice_of s.queue) [] trace
   pub calls : called trace ≡ script_of s.ats s.ticks
   pub shows : out ≡ rendered s.table trace end
 

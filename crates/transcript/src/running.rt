@@ -1,11 +1,12 @@
 // Scripts that are run over one of the two queues.
-ghost use Rattle.std.specs.Prelude.{◌≡◌, IfOk};
+ghost use Rattle.std.specs.Prelude.{◌≡◌, [], IfOk};
 ghost use Rattle.dispatcher.specs.Scripts.{calls_of, trace_of};
+ghost use Rattle.model.specs.Histories.{Chosen};
 ghost use Rattle.model.specs.Machine.{State};
 ghost use Rattle.table.specs.Settings.{table_of};
 ghost use Rattle.sheet.specs.Sheets.{set_by};
 ghost use Rattle.transcript.specs.Schedules.{script_of};
-ghost use Rattle.transcript.specs.Transcripts.{Ran};
+ghost use Rattle.transcript.specs.Transcripts.{Ran, choice_of};
 
 use crate::scheduling::script;
 use dispatcher::{Entry, run};
@@ -22,6 +23,7 @@ const PLACES: usize = 64;
 // in one place.
 fn answer_over(setting: Setting, queue: QueueName, script: &mut [Entry])
     ensures runs { (end : State) × Ran (table_of setting) (trace_of script.new) end }
+    ensures chosen { Chosen (choice_of queue) [] (trace_of script.new) }
     ensures calls { calls_of script.new ≡ calls_of script.old }
 {
     let mut slots = [Slot::free(); PLACES];
@@ -38,6 +40,7 @@ fn answer_over(setting: Setting, queue: QueueName, script: &mut [Entry])
 // The script of a sheet, with the answers of its run.
 pub(crate) fn answered(heap: Global, sheet: Sheet) -> Result<Vec<Entry>, AllocError>
     ensures runs { IfOk result (λ script. (end : State) × Ran (set_by sheet.entry).table (trace_of script.items) end) }
+    ensures chosen { IfOk result (λ script. Chosen (choice_of (set_by sheet.entry).queue) [] (trace_of script.items)) }
     ensures calls { IfOk result (λ script. calls_of script.items ≡ script_of (set_by sheet.entry).ats (set_by sheet.entry).ticks) }
 {
     let mut script = script(heap, sheet.ats(), sheet.ticks())?;

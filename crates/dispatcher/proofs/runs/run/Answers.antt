@@ -1,6 +1,8 @@
-use Rattle.std.proofs.Common.{◌<◌, List, length, get_or, sym, refl, ◌∙◌, subst, arith}
+use Rattle.std.proofs.Common.{◌<◌, List, ◌++◌, length, get_or, take, sym, refl, ◌∙◌, subst, arith}
 use Rattle.std.proofs.lemmas.List.{take_all}
+use Rattle.model.proofs.Histories.{chosen_more, chosen_none, goes_on_more, history_more, stays_on, step_named}
 use Rattle.model.proofs.Promise.{every_run_keeps_the_promise}
+use Rattle.model.specs.Histories.{Chosen, GoesOn, History, by_call, history}
 use Rattle.model.specs.Machine.{State, Step, fresh}
 use Rattle.model.specs.Runs.{Run, Trace, stay}
 use Rattle.model.specs.declared.duties.Duty.{Duty}
@@ -12,28 +14,45 @@ use Rattle.dispatcher.specs.declared.entries.Entry.{Entry}
 use Rattle.dispatcher.proofs.runs.run.Goals as goal
 
 pub loop-entry-init : goal.loop-entry-init
-loop-entry-init g c = (stay, refl, refl)
+loop-entry-init g c =
+    let q = c.start-dispatcher.result.queue in
+    (stay, refl, refl, stays_on g.Q.Queue.arises q q refl, λ past _. chosen_none g.Q.Queue.choice past)
 
 pub loop-entry-preserved : goal.loop-entry-preserved
 loop-entry-preserved g c =
-    let (run, table, calls) = c.loop-entry.invariant in
+    let (run, table, calls, goes_on, chosen) = c.loop-entry.invariant in
     let script = c.loop-entry.script in
     let i = c.loop-entry.entry-index in
     let answer = c.carry_out-entry.result in
     let first = c.start-dispatcher.result in
     let before = view g.Q.Queue.meaning c.loop-entry.dispatcher in
     let after = view g.Q.Queue.meaning c.carry_out-entry.new.self in
+    let arises = g.Q.Queue.arises in
+    let choice = g.Q.Queue.choice in
+    let trace = trace_of (take i script) in
+    let call = (get_or script i no_entry).call in
+    let q = c.loop-entry.dispatcher.queue in
+    let q' = c.carry_out-entry.new.self.queue in
     let short : i < length script = omega arith in
-    let next = subst (λ (t : List Duty). Step t before (get_or script i no_entry).call answer after) table c.carry_out-entry.ensures.step in (
-      subst (λ (t : Trace). Run (duties first) (view g.Q.Queue.meaning first) t after)
-          (sym (trace_more script i answer short)) (run_more (get_or script i no_entry).call answer run next),
+    let more = sym (trace_more script i answer short) in
+    let next = subst (λ (t : List Duty). Step t before call answer after) table c.carry_out-entry.ensures.step in (
+      subst (λ (t : Trace). Run (duties first) (view g.Q.Queue.meaning first) t after) more (run_more call answer run next),
       c.carry_out-entry.ensures.table ∙ table,
       calls_stay script i answer short ∙ calls,
+      subst (λ (t : Trace). GoesOn arises first.queue (history t) q') more
+          (subst (λ (h : History). GoesOn arises first.queue h q') (sym (history_more trace call answer))
+          (goes_on_more arises first.queue q q' (history trace) (by_call call answer) goes_on c.carry_out-entry.ensures.history)),
+      λ past arose.
+          subst (λ (t : Trace). Chosen choice past t) more
+          (chosen_more choice past trace call answer (chosen past arose)
+          (λ slack n tick ticked.
+          sym (g.Q.Queue.chooses (past ++ history trace) q (goes_on past arose))
+          ∙ step_named (duties first) before call answer after next slack n tick ticked)),
     )
 
 pub returns : goal.returns
 returns g c =
-    let (run, table, calls) = c.loop-entry.invariant in
+    let (run, table, calls, goes_on, chosen) = c.loop-entry.invariant in
     let setting = c.args.setting in
     let m = g.Q.Queue.meaning c.args.queue in
     let end = view g.Q.Queue.meaning c.loop-entry.dispatcher in
@@ -43,8 +62,15 @@ returns g c =
     let fresh-run : Run (table_of setting) (fresh (table_of setting) m) (trace_of c.loop-entry.script) end =
     subst (λ (t : List Duty). Run t (fresh (table_of setting) m) (trace_of c.loop-entry.script) end) c.start-dispatcher.ensures.table
     (subst (λ (s : State). Run (duties c.start-dispatcher.result) s (trace_of c.loop-entry.script) end) c.start-dispatcher.ensures.state all) in
+    let q = c.start-dispatcher.result.queue in
+    let started : (past : History) → g.Q.Queue.arises past c.args.queue → g.Q.Queue.arises past q =
+    λ past arose. subst (g.Q.Queue.arises past) (sym c.start-dispatcher.ensures.queue) arose in
+    let went : GoesOn g.Q.Queue.arises q (history (trace_of c.loop-entry.script)) c.loop-entry.dispatcher.queue =
+    subst (λ (s : List Entry). GoesOn g.Q.Queue.arises q (history (trace_of s)) c.loop-entry.dispatcher.queue) whole goes_on in
     record {
       promise = every_run_keeps_the_promise (table_of setting) m (trace_of c.loop-entry.script) end setting.admits (g.Q.Queue.sound c.args.queue) fresh-run;
       calls = calls;
       table = table ∙ c.start-dispatcher.ensures.table;
+      history = λ past arose. went past (started past arose);
+      chosen = λ past arose. subst (λ (s : List Entry). Chosen g.Q.Queue.choice past (trace_of s)) whole (chosen past (started past arose));
     }

@@ -15,6 +15,6 @@ returns c =
     let duties = string_bytes c.write_duties.new.out in
     let out = string_bytes c.write_run.new.out in
     let (end, ran) = c.in_ok-script.ensures.runs in
-    transcript_of sheet script end start duties out ran c.in_ok-script.ensures.calls c.new-out.ensures.bytes
+    transcript_of sheet script end start duties out ran c.in_ok-script.ensures.chosen c.in_ok-script.ensures.calls c.new-out.ensures.bytes
     (c.in_ok-write_duties.ensures ∙ ap (λ (table : List Duty). start ++ duty_lines table (length table)) c.setting.ensures)
     (c.in_ok-write_run.ensures ∙ ap (λ (es : List Entry). duties ++ run_lines (trace_of es) (left_over (trace_of es))) c.as_slice.ensures.value)

@@ -1,4 +1,5 @@
-use Rattle.std.proofs.Common.{◌&&◌, leb, subst}
+use Rattle.std.proofs.Common.{◌&&◌, leb, refl, subst}
+use Rattle.model.proofs.Histories.{stays_on}
 use Rattle.workload.specs.Acts.{Turns, slack_in}
 use Rattle.workload.specs.Workloads.{rows_in}
 use Rattle.workload.specs.declared.turns.Turn.{Turn}
@@ -22,4 +23,5 @@ returns-in-Duty g c =
             c.in-Duty.row turns,
       );
       table = ticked.4;
+      history = stays_on g.Q.Queue.arises q q refl;
     }

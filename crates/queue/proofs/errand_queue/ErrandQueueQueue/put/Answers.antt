@@ -1,10 +1,9 @@
-use Rattle.std.proofs.Common.{◌≡◌, true, false, is_some, ◌∙◌, refl}
+use Rattle.std.proofs.Common.{◌≡◌, true, false, is_some, refl}
 use Rattle.model.specs.declared.refusals.Refusal.TheVariants.{AlreadyWaiting}
 use Rattle.list.specs.Held.{held}
 use Rattle.queue.specs.Lines.{place_of}
-use Rattle.queue.proofs.Arriving.{arrives_last}
+use Rattle.queue.proofs.Arising.{arises_put}
 use Rattle.queue.proofs.Calling.{put_waits, put_inserted, once_put}
-use Rattle.queue.proofs.Joining.{stands_put}
 use Rattle.queue.proofs.errand_queue.ErrandQueueQueue.put.Goals as goal
 
 pub returns-then-is_some-clause-means : goal.returns-then-is_some-clause-means
@@ -31,14 +30,7 @@ returns-clause-means g c =
     put_inserted q.line c.insert.new.self c.in_ok-slot.slot c.args.errand c.insert.result c.insert.ensures none
     made.1.errand made.0 q.once
 
-pub returns-clause-joins : goal.returns-clause-joins
-returns-clause-joins g c =
-    stands_put g.R.Rule.worth g.R.Rule.units c.args.self.now.line c.insert.new.self c.in_ok-slot.slot c.args.errand c.insert.result
+pub returns-clause-history : goal.returns-clause-history
+returns-clause-history g c =
+    arises_put g.R.Rule.worth g.R.Rule.units c.args.self.now.line c.insert.new.self c.in_ok-slot.slot c.args.errand c.insert.result
     c.in_ok-slot.ensures.1 c.insert.ensures
-
-pub returns-clause-arrives : goal.returns-clause-arrives
-returns-clause-arrives g c =
-    let made = c.in_ok-slot.ensures.1 in
-    λ none.
-    arrives_last c.args.self.now.line c.insert.new.self c.in_ok-slot.slot c.args.errand c.insert.result made.errand
-    (made.worth_put ∙ none) c.insert.ensures

@@ -1,18 +1,16 @@
-use Rattle.std.proofs.Common.{Some, ap, ◌∙◌}
-use Rattle.list.specs.Held.{held}
-use Rattle.queue.specs.Lines.{errands}
-use Rattle.queue.proofs.Calling.{last_spent, unit_spent, once_spent, errands_spent}
-use Rattle.queue.proofs.Joining.{stands_spend}
+use Rattle.std.proofs.Common.{Some}
+use Rattle.queue.proofs.Arising.{arises_spend}
+use Rattle.queue.proofs.Calling.{last_spent, unit_spent, once_spent}
 use Rattle.queue.proofs.errand_queue.ErrandQueueQueue.spend.Goals as goal
 
-pub returns-then-errand-le1-clause-stands : goal.returns-then-errand-le1-clause-stands
-returns-then-errand-le1-clause-stands g c =
+pub returns-then-errand-le1-clause-history : goal.returns-then-errand-le1-clause-history
+returns-then-errand-le1-clause-history g c =
     let q = c.args.self.now in
     let m = c.remove.new.self in
     let done =
     last_spent q.line m c.in_ok-slot.slot c.errand-errand.result c.in_ok-slot.ensures c.errand-errand.ensures
     c.if-errand-le1.true c.remove.ensures.becomes q.once in
-    stands_spend q.line m (Some c.errand-errand.result.number) done.spends q.once done.slots
+    arises_spend g.R.Rule.worth g.R.Rule.units q.line m (Some c.errand-errand.result.number) done.spends q.once done.slots
 
 pub invariant_of-self-else-errand-le1 : goal.invariant_of-self-else-errand-le1
 invariant_of-self-else-errand-le1 g c =
@@ -32,7 +30,7 @@ returns-else-errand-le1 g c =
     c.errand-errand.ensures c.if-errand-le1.false c.with_units.ensures c.replace.ensures.value c.replace.ensures.becomes q.once in
     record {
       means = done.spends;
-      serves = ap errands done.slots ∙ errands_spent (held q.line);
-      stands = stands_spend q.line m (Some c.errand-errand.result.number) done.spends q.once done.slots;
+      history =
+          arises_spend g.R.Rule.worth g.R.Rule.units q.line m (Some c.errand-errand.result.number) done.spends q.once done.slots;
       kept = tt;
     }

@@ -1,11 +1,10 @@
-use Rattle.std.proofs.Common.{◌≡◌, Some, None, Err, sym, ap, ◌∙◌, rules}
+use Rattle.std.proofs.Common.{◌≡◌, Some, None, Err, ◌∙◌, rules}
 use Rattle.std.specs.List.{slice_get}
 use Rattle.model.specs.declared.refusals.Refusal.TheVariants.{NotWaiting}
 use Rattle.list.specs.Held.{held}
-use Rattle.queue.specs.Lines.{errands, place_of}
-use Rattle.queue.proofs.Arriving.{errands_leaving}
-use Rattle.queue.proofs.Calling.{take_found, take_missing, without_is, without_missing, once_removed}
-use Rattle.queue.proofs.Joining.{stands_take}
+use Rattle.queue.specs.Lines.{place_of}
+use Rattle.queue.proofs.Arising.{arises_take}
+use Rattle.queue.proofs.Calling.{take_found, take_missing, without_is, once_removed}
 use Rattle.queue.proofs.errand_queue.ErrandQueueQueue.take.Goals as goal
 
 pub returns-in_err-place : goal.returns-in_err-place
@@ -13,11 +12,9 @@ returns-in_err-place g c =
     let q = c.args.self.now in
     let refused : c.from_residual.result ≡ Err NotWaiting = search rules in
     let none : place_of c.args.number (held q.line) ≡ None = cc (c.in_err-place.ensures.ok_part) in
-    let same = sym (without_missing c.args.number (held q.line) none) in
     record {
       means = take_missing q.line c.args.number c.from_residual.result none refused;
-      leaves = ap errands same ∙ errands_leaving c.args.number (held q.line);
-      stands = stands_take q.line q.line c.args.number q.once same;
+      history = search rules;
       kept = search rules;
     }
 
@@ -33,12 +30,12 @@ returns g c =
     let n = c.args.number in
     let place : place_of n (held q.line) ≡ Some c.in_ok-place.place = cc (c.in_ok-place.ensures.ok_part) in
     let at : slice_get (held q.line) c.in_ok-place.place ≡ Some c.in_ok-slot.slot = cc (c.in_ok-slot.ensures.ok_part) in
-    let after = c.remove.ensures.becomes.holds ∙ without_is n (held q.line) c.in_ok-place.place place in
     record {
       means =
           take_found q.line m n c.in_ok-place.place c.in_ok-slot.slot c.errand.result place at c.errand.ensures
           c.remove.ensures.becomes q.once;
-      leaves = ap errands after ∙ errands_leaving n (held q.line);
-      stands = stands_take q.line m n q.once after;
+      history =
+          arises_take g.R.Rule.worth g.R.Rule.units q.line m n q.once
+          (c.remove.ensures.becomes.holds ∙ without_is n (held q.line) c.in_ok-place.place place);
       kept = tt;
     }
