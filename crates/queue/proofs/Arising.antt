@@ -1,5 +1,6 @@
 -- How a line goes on from what arrived to what then waits, call by call.
 use Rattle.std.proofs.Common.{◌≡◌, ℕ, ◌-◌, pred, true, false, cond, eqb, leb, List, [], ◌∷◌, ◌++◌, map, Some, None, Ok, Err, Option, Result, sym, refl, ap, ◌∙◌, sub-one}
+use Rattle.std.specs.List.{cons_option, filter_map}
 use Rattle.std.specs.Option.{option_map}
 use Rattle.std.proofs.lemmas.List.{map_push}
 use Rattle.model.proofs.Histories.{stays_on}
@@ -10,7 +11,7 @@ use Rattle.model.specs.declared.refusals.Refusal.{Refusal}
 use Rattle.list.specs.Held.{held, Inserts}
 use Rattle.list.specs.Order.{placed}
 use Rattle.list.specs.declared.ordered.OrderedList.{OrderedList}
-use Rattle.queue.specs.Arrivals.{Arrival, Rated, after, after_all, arrived, before_all, each_to, gone, rated, worked}
+use Rattle.queue.specs.Arrivals.{Arrival, Rated, after, after_all, arrived, gone, rated, worked}
 use Rattle.queue.specs.Lines.{errands, line_meaning}
 use Rattle.queue.specs.Orders.{Arises, rated_in}
 use Rattle.queue.specs.Ranks.{ranks}
@@ -21,17 +22,17 @@ use Rattle.queue.proofs.Joining.{each_joining, gone_keeps, joining_push, nothing
 
 -- To turn each and then to look at each is to look first and to turn what is seen.
 map_before : {A B : Type 0} (f : A → B) (o : Option A) (xs : List A) →
-    map f (before_all o xs) ≡ before_all (option_map f o) (map f xs)
+    map f (cons_option o xs) ≡ cons_option (option_map f o) (map f xs)
 map_before f None xs = refl
 map_before f (Some x) xs = refl
 
 map_each : {A B : Type 0} (f : A → B) (turn : A → Option A) (turn' : B → Option B) →
-    ((x : A) → option_map f (turn x) ≡ turn' (f x)) → (xs : List A) → map f (each_to turn xs) ≡ each_to turn' (map f xs)
+    ((x : A) → option_map f (turn x) ≡ turn' (f x)) → (xs : List A) → map f (filter_map turn xs) ≡ filter_map turn' (map f xs)
 map_each f turn turn' same [] = refl
 map_each f turn turn' same (x ∷ xs) =
-    map_before f (turn x) (each_to turn xs)
-    ∙ ap (λ o. before_all o (map f (each_to turn xs))) (same x)
-    ∙ ap (before_all (turn' (f x))) (map_each f turn turn' same xs)
+    map_before f (turn x) (filter_map turn xs)
+    ∙ ap (λ o. cons_option o (map f (filter_map turn xs))) (same x)
+    ∙ ap (cons_option (turn' (f x))) (map_each f turn turn' same xs)
 
 -- Of the rated, the one of a number is gone, or has one unit less.
 abbrev gone_rated : ℕ → Rated → Option Rated
@@ -89,17 +90,17 @@ module _ (worth units : Errand → ℕ) where
       [ true ↦ same (one_less a.waits) | false ↦ refl ]
 
   came_gone : (n : ℕ) (came : List Slot) (past : History) → map rated_in came ≡ map rates (arrived past) →
-      map rated_in (each_to (gone_slot n) came) ≡ map rates (each_to (gone n) (arrived past))
+      map rated_in (filter_map (gone_slot n) came) ≡ map rates (filter_map (gone n) (arrived past))
   came_gone n came past same =
       map_each rated_in (gone_slot n) (gone_rated n) (slot_gone n) came
-      ∙ ap (each_to (gone_rated n)) same
+      ∙ ap (filter_map (gone_rated n)) same
       ∙ sym (map_each rates (gone n) (gone_rated n) (arrival_gone n) (arrived past))
 
   came_worked : (n : ℕ) (came : List Slot) (past : History) → map rated_in came ≡ map rates (arrived past) →
-      map rated_in (each_to (worked_slot n) came) ≡ map rates (each_to (worked n) (arrived past))
+      map rated_in (filter_map (worked_slot n) came) ≡ map rates (filter_map (worked n) (arrived past))
   came_worked n came past same =
       map_each rated_in (worked_slot n) (worked_rated n) (slot_worked n) came
-      ∙ ap (each_to (worked_rated n)) same
+      ∙ ap (filter_map (worked_rated n)) same
       ∙ sym (map_each rates (worked n) (worked_rated n) (arrival_worked n) (arrived past))
 
   -- One event more.
@@ -131,9 +132,9 @@ module _ (worth units : Errand → ℕ) where
       stays_on (Arises worth units) (held l) (held m) (is ∙ sym (nothing_spent (held l) spends.0)) past arose
   arises_spend l m (Some n) spends once is past arose =
       record {
-        came = each_to (worked_slot n) arose.came;
+        came = filter_map (worked_slot n) arose.came;
         stands =
-            is ∙ spent_is_worked n (held l) spends.0 once ∙ ap (each_to (worked_slot n)) arose.stands
+            is ∙ spent_is_worked n (held l) spends.0 once ∙ ap (filter_map (worked_slot n)) arose.stands
             ∙ each_joining (worked_slot n) (worked_keeps n) [] arose.came refl;
         arrivals =
             came_worked n arose.came past arose.arrivals ∙ ap (map rates) (sym (after_push [] past (was_spent n)));
@@ -143,9 +144,9 @@ module _ (worth units : Errand → ℕ) where
       held m ≡ without n (held l) → GoesOn (Arises worth units) (held l) (was_taken n ∷ []) (held m)
   arises_take l m n once is past arose =
       record {
-        came = each_to (gone_slot n) arose.came;
+        came = filter_map (gone_slot n) arose.came;
         stands =
-            is ∙ without_is_gone n (held l) once ∙ ap (each_to (gone_slot n)) arose.stands
+            is ∙ without_is_gone n (held l) once ∙ ap (filter_map (gone_slot n)) arose.stands
             ∙ each_joining (gone_slot n) (gone_keeps n) [] arose.came refl;
         arrivals = came_gone n arose.came past arose.arrivals ∙ ap (map rates) (sym (after_push [] past (was_taken n)));
       }

@@ -1,5 +1,6 @@
 mod After
 mod Arising
+mod Best
 mod Calling
 mod Changing
 pub mod Earliest

@@ -1,6 +1,7 @@
 -- The errands that wait in order of arrival, and by which choice one of them is served next. All of it is reckoned
 -- from a queue's history alone.
 use Rattle.std.specs.Prelude.{ℕ, ◌*◌, Bool, cond, List, [], ◌∷◌, ◌++◌, map, Some, None, Option, ◌==◌, nat_lt}
+use Rattle.std.specs.List.{filter_map}
 use Rattle.std.specs.Option.{option_map}
 use Rattle.model.specs.Histories.{Choice, Event, History, was_put, was_spent, was_taken}
 use Rattle.model.specs.Queues.{one_less}
@@ -10,16 +11,6 @@ use Rattle.model.specs.declared.errands.Errand.{Errand}
 pub record Arrival : Type 0 where
   pub put : Errand
   pub waits : Errand
-
--- What is left of one, if anything, and then the others.
-abbrev pub before_all : {E : Type 0} → Option E → List E → List E
-before_all None xs = xs
-before_all (Some x) xs = x ∷ xs
-
--- Each turned into another, or dropped; none changes its place among the others.
-abbrev pub each_to : {E : Type 0} → (E → Option E) → List E → List E
-each_to turn [] = []
-each_to turn (x ∷ xs) = before_all (turn x) (each_to turn xs)
 
 -- The errand of the number n is gone.
 abbrev pub gone : ℕ → Arrival → Option Arrival
@@ -33,8 +24,8 @@ worked n a =
 -- What waits after one event more: what was put arrives last.
 abbrev pub after : List Arrival → Event → List Arrival
 after came (was_put e) = came ++ record { put = e; waits = e } ∷ []
-after came (was_spent n) = each_to (worked n) came
-after came (was_taken n) = each_to (gone n) came
+after came (was_spent n) = filter_map (worked n) came
+after came (was_taken n) = filter_map (gone n) came
 
 -- What waits after all that happened, the oldest event first.
 abbrev pub after_all : List Arrival → History → List Arrival
@@ -82,6 +73,10 @@ best_of (a ∷ came) = Some (best_from a came).errand.number
 abbrev pub best_rated : (Errand → ℕ) → (Errand → ℕ) → Choice
 best_rated worth units past = best_of (map (rated worth units) (arrived past))
 
--- The choice of the worth queue: the best by the worth for the units that it was put with.
+-- What waits after a history, rated by its worth for the units that it was put with.
+abbrev pub by_worth : History → List Rated
+by_worth past = map (rated (λ e. e.worth) (λ e. e.units)) (arrived past)
+
+-- The choice of the worth queue: the best of them.
 abbrev pub best_worth : Choice
-best_worth = best_rated (λ e. e.worth) (λ e. e.units)
+best_worth past = best_of (by_worth past)

@@ -1,4 +1,5 @@
 pub mod Arrivals
+pub mod Best
 pub mod Lines
 pub mod Orders
 pub mod Ranks

@@ -10,7 +10,7 @@ abbrev pub ranks : Slot → Slot → Bool
 ranks x y = outrates x.rating y.rating
 
 -- x has no more worth for a unit than y, and y no more than z: then x has no more than z.
-rates_chain : (xw xu yw yu zw zu : ℕ) → 0 < yu → xw * yu ≤ yw * xu → yw * zu ≤ zw * yu → xw * zu ≤ zw * xu
+pub rates_chain : (xw xu yw yu zw zu : ℕ) → 0 < yu → xw * yu ≤ yw * xu → yw * zu ≤ zw * yu → xw * zu ≤ zw * xu
 rates_chain xw xu yw yu zw zu some h k =
     let scaled : xw * zu * yu ≤ zw * xu * yu =
     omega (

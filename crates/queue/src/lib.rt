@@ -9,5 +9,5 @@ mod slots;
 
 pub use errand_queue::{ByWorth, ErrandQueue, FirstCome};
 pub use queues::Queue;
-pub use rules::{Alike, Rule, WorthForUnits, rules_as_named};
+pub use rules::{Alike, Rule, WorthForUnits, best_worth_is_best, rules_as_named};
 pub use slots::Slot;

@@ -4,6 +4,7 @@ ghost use Rattle.model.specs.Histories.{History};
 ghost use Rattle.model.specs.Queues.{errand_within};
 ghost use Rattle.model.specs.declared.errands.Errand.{Errand as Request};
 ghost use Rattle.queue.specs.Arrivals.{best_rated, best_worth, earliest};
+ghost use Rattle.queue.specs.Best.{BestWorthIsBest};
 ghost use Rattle.queue.specs.Slots.{some_units};
 
 use model::Errand;
@@ -57,4 +58,10 @@ impl Rule for WorthForUnits {
 pub fn rules_as_named()
     ensures alike { (past : History) → best_rated ⟦<Alike as Rule>⟧.worth ⟦<Alike as Rule>⟧.units past ≡ earliest past }
     ensures worth { (past : History) → best_rated ⟦<WorthForUnits as Rule>⟧.worth ⟦<WorthForUnits as Rule>⟧.units past ≡ best_worth past }
+{}
+
+// The worth queue names the errand with the most worth for the units put: it is better than each that was put earlier, and none that
+// was put later is better.
+pub fn best_worth_is_best()
+    ensures { BestWorthIsBest }
 {}
