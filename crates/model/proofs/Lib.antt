@@ -16,6 +16,7 @@ pub mod Missing
 pub mod Promise
 pub mod Responses
 pub mod Searches
+pub mod Settled
 pub mod Slack
 pub mod Slots
 pub mod Sparing

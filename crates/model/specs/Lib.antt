@@ -13,6 +13,7 @@ pub mod Responses
 pub mod Runs
 pub mod Searches
 pub mod Table
+pub mod Settled
 pub mod Totals
 pub mod Words
 pub mod Worked

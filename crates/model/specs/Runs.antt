@@ -1,5 +1,5 @@
 -- Runs: finite lists of calls with their answers, and what can be read off such a list alone.
-use Rattle.std.specs.Prelude.{ℕ, ◌+◌, Bool, true, false, cond, ◌&&◌, List, [], ◌∷◌, ◌==◌}
+use Rattle.std.specs.Prelude.{ℕ, ◌+◌, Bool, true, false, cond, ◌&&◌, List, [], ◌∷◌, map, ◌==◌}
 use Rattle.model.specs.Machine.{State, Step}
 use Rattle.model.specs.declared.calls.Answer.{Answer}
 use Rattle.model.specs.declared.calls.Answer.TheVariants.{Accepted, Withdrawn, Slack as SlackIs, Ticked, Refused}
@@ -12,6 +12,10 @@ use Rattle.model.specs.declared.duties.Duty.{Duty}
 -- Calls with their answers, the oldest first.
 abbrev pub Trace : Type 0
 Trace = List (Call × Answer)
+
+-- The calls alone.
+abbrev pub called : Trace → List Call
+called = map (λ (x : Call × Answer). x.0)
 
 -- The machine goes from one state to another by these calls with these answers.
 pub data Run (table : List Duty) : State → Trace → State → Type 0 where

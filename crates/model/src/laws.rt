@@ -4,6 +4,7 @@ ghost use Rattle.model.specs.Idle.{SlackIsGreatest, SlackIsIdleTicks};
 ghost use Rattle.model.specs.MachineExamples.{MachineExamples};
 ghost use Rattle.model.specs.Promise.{EveryRunKeepsThePromise};
 ghost use Rattle.model.specs.Responses.{ResponseIsLeast};
+ghost use Rattle.model.specs.Settled.{ChoiceSettlesRuns};
 ghost use Rattle.model.specs.Totals.{TotalsBalance};
 ghost use Rattle.model.specs.Worked.{WorkedExamples};
 
@@ -36,6 +37,11 @@ pub fn kept_always()
 // Every run meets its deadlines, spares every tick that it can to an errand, and balances its accounts.
 pub fn every_run_keeps_the_promise()
     ensures { EveryRunKeepsThePromise }
+{}
+
+// Nothing but the queue's choice is open in a run.
+pub fn choice_settles_runs()
+    ensures { ChoiceSettlesRuns }
 {}
 
 // In every run the units that came in, over all errands, are those that went out and those that still wait.

@@ -12,8 +12,8 @@ pub use calls::{Answer, Call, Who};
 pub use duties::Duty;
 pub use errands::Errand;
 pub use laws::{
-    every_run_keeps_the_promise, kept_always, machine_examples, response_is_least,
-    slack_is_greatest, slack_is_idle_ticks, totals_balance, worked_examples,
+    choice_settles_runs, every_run_keeps_the_promise, kept_always, machine_examples,
+    response_is_least, slack_is_greatest, slack_is_idle_ticks, totals_balance, worked_examples,
 };
 pub use refusals::Refusal;
 pub use rows::{Row, RowCall};

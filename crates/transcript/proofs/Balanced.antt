@@ -6,7 +6,7 @@ use Rattle.model.proofs.Totals.{totals_balance}
 use Rattle.model.specs.Histories.{Chosen}
 use Rattle.model.specs.Machine.{State}
 use Rattle.model.specs.Queues.{Sound, distinct, names_right}
-use Rattle.model.specs.Runs.{Trace}
+use Rattle.model.specs.Runs.{Trace, called}
 use Rattle.model.specs.Totals.{total_accepted, total_served, total_units, total_withdrawn}
 use Rattle.model.specs.declared.calls.Call.{Call}
 use Rattle.model.specs.declared.duties.Duty.{Duty}
@@ -14,10 +14,10 @@ use Rattle.model.specs.declared.errands.Errand.{Errand}
 use Rattle.sheet.specs.Sheets.{Set}
 use Rattle.transcript.specs.Renderings.{duty_lines, left_over, run_lines}
 use Rattle.transcript.specs.Schedules.{script_of}
-use Rattle.transcript.specs.Transcripts.{Ran, Transcript, called, choice_of}
+use Rattle.transcript.specs.Transcripts.{Ran, Transcript, choice_of}
 
 module _ (table : List Duty) (trace : Trace) (end : State) (ran : Ran table trace end) where
-  starts_sound : Sound ran.start
+  pub starts_sound : Sound ran.start
   starts_sound =
       record {
         each_once = ap distinct ran.empty;

@@ -3,3 +3,4 @@ pub mod Clocks
 pub mod Growing
 pub mod Inserting
 pub mod Rendered
+mod Settled

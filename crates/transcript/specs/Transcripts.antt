@@ -1,12 +1,10 @@
 -- What is printed of a text: its fault, or the rendering of a run of the sheet that it is.
-use Rattle.std.specs.Prelude.{◌≡◌, ℕ, List, [], map, None, Ok, Err, Result}
+use Rattle.std.specs.Prelude.{◌≡◌, ℕ, List, [], None, Ok, Err, Result}
 use Rattle.model.specs.Histories.{Choice, Chosen}
 use Rattle.model.specs.Machine.{State}
 use Rattle.model.specs.Promise.{Promise}
 use Rattle.model.specs.Queues.{Meaning}
-use Rattle.model.specs.Runs.{Trace}
-use Rattle.model.specs.declared.calls.Answer.{Answer}
-use Rattle.model.specs.declared.calls.Call.{Call}
+use Rattle.model.specs.Runs.{Trace, called}
 use Rattle.model.specs.declared.duties.Duty.{Duty}
 use Rattle.queue.specs.Arrivals.{best_worth, earliest}
 use Rattle.sheet.specs.Sheets.{Set, sheet_of}
@@ -16,10 +14,6 @@ use Rattle.forms.specs.declared.sayings.QueueName.TheVariants.{First, Worth}
 use Rattle.transcript.specs.Lines.{fault_line}
 use Rattle.transcript.specs.Renderings.{rendered}
 use Rattle.transcript.specs.Schedules.{script_of}
-
--- The calls of a trace.
-abbrev pub called : Trace → List Call
-called = map (λ (x : Call × Answer). x.0)
 
 -- A trace over a table is that of a run, with all that is promised of one, from the fresh state over a queue in which
 -- nothing waits, that names nobody and that has 64 places.
@@ -53,3 +47,7 @@ PrintedOf (Err f) out = out ≡ fault_line f
 -- What is printed of a text.
 abbrev pub Printed : List ℕ → List ℕ → Type 0
 Printed text out = PrintedOf (sheet_of text) out
+
+-- Every text has one: nothing is open in what is printed of it.
+abbrev pub OneTranscript : Type 0
+OneTranscript = (text out out' : List ℕ) → Printed text out → Printed text out' → out ≡ out'

@@ -9,4 +9,4 @@ mod totals;
 mod transcripts;
 mod upcoming;
 
-pub use transcripts::transcript;
+pub use transcripts::{one_transcript, transcript};

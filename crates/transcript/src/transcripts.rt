@@ -3,7 +3,7 @@ ghost use Rattle.std.specs.Prelude.{◌≡◌, ◌++◌, IfOk, string_bytes, OnO
 ghost use Rattle.dispatcher.specs.Scripts.{trace_of};
 ghost use Rattle.sheet.specs.Sheets.{set_by};
 ghost use Rattle.transcript.specs.Renderings.{left_over, run_lines};
-ghost use Rattle.transcript.specs.Transcripts.{Printed, Transcript};
+ghost use Rattle.transcript.specs.Transcripts.{OneTranscript, Printed, Transcript};
 
 use crate::lines::{write_duties, write_events};
 use crate::running::answered;
@@ -40,3 +40,8 @@ pub fn transcript(heap: Global, text: &[u8]) -> Result<String, AllocError>
         Err(fault) => format!(in heap; "{fault}\n"),
     }
 }
+
+// What is printed of a text is settled by the text.
+pub fn one_transcript()
+    ensures { OneTranscript }
+{}
