@@ -40,15 +40,32 @@ fn show(rt: &HostRuntime, list: &OrderedList<'_, Due<'_>>) -> io::Result<()> {
     println!(rt; "")
 }
 
-fn main(rt: HostRuntime) -> io::Result<()> {
+// A list of four slots: full, it refuses every entry, of a rank that it holds or not, and stays as it is.
+fn four(rt: &HostRuntime) -> io::Result<()> {
     let mut slots = [Due::default(); 4];
     let mut list = OrderedList::new(&mut slots);
-    insert_all(&rt, &mut list, &[due(4, "c"), due(0, "a"), due(4, "d")])?;
-    insert_all(&rt, &mut list, &[due(2, "b"), due(0, "e")])?;
-    show(&rt, &list)?;
+    insert_all(rt, &mut list, &[due(4, "c"), due(0, "a"), due(4, "d")])?;
+    insert_all(rt, &mut list, &[due(2, "b"), due(0, "e")])?;
+    insert_all(rt, &mut list, &[due(1, "e"), due(4, "e"), due(9, "e")])?;
+    show(rt, &list)?;
     let _ = list.remove(1);
     let _ = list.remove(3);
     let _ = list.replace(1, due(4, "f"));
     let _ = list.replace(1, due(5, "g"));
-    show(&rt, &list)
+    show(rt, &list)?;
+    insert_all(rt, &mut list, &[due(0, "h"), due(0, "i")])?;
+    show(rt, &list)
+}
+
+// A list of no slots is full from the start.
+fn none(rt: &HostRuntime) -> io::Result<()> {
+    let mut slots = [Due::default(); 0];
+    let mut list = OrderedList::new(&mut slots);
+    insert_all(rt, &mut list, &[due(0, "a")])?;
+    show(rt, &list)
+}
+
+fn main(rt: HostRuntime) -> io::Result<()> {
+    four(&rt)?;
+    none(&rt)
 }

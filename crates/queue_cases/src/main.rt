@@ -71,8 +71,10 @@ fn taken<Q: Queue + Drop>(rt: &HostRuntime, mut queue: Q) -> io::Result<()> {
     serve(rt, &mut queue, 6)
 }
 
-// The refusals, the smallest number first.
+// The refusals of put, each alone and where several fit, and that of take: what is said below is of a queue of two places. One of no
+// place answers 10 where there is no 8.
 fn refused<Q: Queue + Drop>(rt: &HostRuntime, mut queue: Q) -> io::Result<()> {
+    // Limits: 8; then within them.
     put_all(
         rt,
         &mut queue,
@@ -83,6 +85,7 @@ fn refused<Q: Queue + Drop>(rt: &HostRuntime, mut queue: Q) -> io::Result<()> {
             errand(1, 4096, 65535),
         ],
     )?;
+    // 8 and 9; 9; a second errand; 10.
     put_all(
         rt,
         &mut queue,
@@ -92,7 +95,23 @@ fn refused<Q: Queue + Drop>(rt: &HostRuntime, mut queue: Q) -> io::Result<()> {
             errand(2, 1, 1),
             errand(3, 1, 1),
         ],
-    )
+    )?;
+    // With no place free: 8 and 10; 9 and 10; 8, 9 and 10; 10.
+    put_all(
+        rt,
+        &mut queue,
+        &[
+            errand(3, 1, 65536),
+            errand(2, 1, 1),
+            errand(2, 0, 1),
+            errand(3, 1, 1),
+        ],
+    )?;
+    take_one(rt, &mut queue, 3)?;
+    serve(rt, &mut queue, 2)?;
+    take_one(rt, &mut queue, 1)?;
+    take_one(rt, &mut queue, 1)?;
+    take_one(rt, &mut queue, 2)
 }
 
 // How many of 1,030 errands find a place.
@@ -118,6 +137,7 @@ fn served<R: Rule>(rt: &HostRuntime, rule: &str) -> io::Result<()> {
 fn full(rt: &HostRuntime) -> io::Result<()> {
     let mut few = [Slot::free(); 2];
     refused(rt, FirstCome::new(&mut few))?;
+    refused(rt, ByWorth::new(&mut few))?;
     filled(rt, ByWorth::new(&mut few))?;
     refused(rt, ByWorth::new(&mut few[0..0]))?;
     let mut many = [Slot::free(); 1025];
