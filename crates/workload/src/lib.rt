@@ -6,6 +6,8 @@ mod asking;
 mod slack;
 mod streams;
 mod stretches;
+#[cfg(test)]
+mod tests;
 mod turns;
 mod workloads;
 
