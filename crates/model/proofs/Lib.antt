@@ -26,3 +26,4 @@ pub mod Ticks
 pub mod Timely
 pub mod Told
 pub mod Totals
+pub mod Weights

@@ -1,10 +1,10 @@
 -- Two runs of the same calls, in step: as long as the same errands had the ticks, the answers are the same, and the states differ in
 -- no more than the order in which the errands that wait are listed and the one that is named.
-use Rattle.std.proofs.Common.{◌≡◌, ℕ, suc, ◌+◌, ◌≤◌, Bool, true, false, cond, not, ◌&&◌, eqb, leb, List, [], ◌∷◌, ◌++◌, length, is_some, Some, None, Ok, Err, Option, Result, sym, refl, ap, ◌∙◌, subst, ⊎_elim, append_assoc, arith}
-use Rattle.std.proofs.lemmas.Bool.{and_parts, cases_eq, cond-false, cond-true, eq-eqb, ne_eqb, not-true}
+use Rattle.std.proofs.Common.{◌≡◌, ℕ, ◌+◌, Bool, true, false, cond, not, ◌&&◌, leb, List, [], ◌∷◌, ◌++◌, length, is_some, Some, None, Ok, Err, Option, Result, sym, refl, ap, ◌∙◌, subst, ⊎_elim, append_assoc, arith}
+use Rattle.std.proofs.lemmas.Bool.{cases_eq}
 use Rattle.model.specs.Histories.{Choice, Chosen, History, by_call, history}
 use Rattle.model.specs.Machine.{State, Step, OnlyQueue, RowCalled, Ticks, Turn, call_refusal, duty_tick, duty_turn, errand_due, fresh, plain_answer, rows_after, slack_of, tick_answer, units_answer, waits}
-use Rattle.model.specs.Queues.{Changes, Meaning, Put, Sound, Take, distinct, errand_within, look, one_less, put_refusal}
+use Rattle.model.specs.Queues.{Changes, Meaning, Put, Sound, Take, errand_within, look, one_less, put_refusal}
 use Rattle.model.specs.Reckoning.{table_slack}
 use Rattle.model.specs.Refusals.{told}
 use Rattle.model.specs.Runs.{Run, Trace, called, stay, step}
@@ -21,53 +21,9 @@ use Rattle.model.specs.declared.refusals.Refusal.{Refusal}
 use Rattle.model.specs.declared.rows.Row.{Row}
 use Rattle.model.specs.declared.rows.RowCall.{RowCall}
 use Rattle.model.specs.declared.rows.RowCall.TheVariants.{Release as RowRelease, Done as RowDone}
-use Rattle.model.proofs.Found.{none_is}
-use Rattle.model.proofs.Sums.{sum_to, sum_both, sum_none, sum_same, sum_alone}
+use Rattle.model.proofs.Sums.{sum_same}
 use Rattle.model.proofs.Told.{told_apart, told_some}
-
--- How often a number waits in a list, and how many wait below a bound.
-abbrev once : Option Errand → ℕ
-once None = 0
-once (Some e) = 1
-
-abbrev bound_of : List Errand → ℕ
-bound_of [] = 0
-bound_of (e ∷ es) = suc e.number + bound_of es
-
-first_counted : (e : Errand) (es : List Errand) (n : ℕ) → look es e.number ≡ None →
-    once (look (e ∷ es) n) ≡ cond (eqb e.number n) 1 0 + once (look es n)
-first_counted e es n new =
-    ⊎_elim
-    (λ (same : e.number ≡ n).
-    let yes = eq-eqb e.number n same in
-    let none : look es n ≡ None = subst (λ k. look es k ≡ None) same new in
-    ap once (cond-true (eqb e.number n) (Some e) (look es n) yes)
-    ∙ omega (arith, cond-true {A = ℕ} (eqb e.number n) 1 0 yes, ap once none))
-    (λ (other : e.number ≡ n → ⊥).
-    let no = ne_eqb e.number n other in
-    ap once (cond-false (eqb e.number n) (Some e) (look es n) no)
-    ∙ omega (arith, cond-false {A = ℕ} (eqb e.number n) 1 0 no))
-    (cases_eq e.number n)
-
-counted : (bound : ℕ) (es : List Errand) → distinct es ≡ true → bound_of es ≤ bound →
-    sum_to (λ n. once (look es n)) bound ≡ length es
-counted bound [] apart below = sum_none (λ n. 0) bound (λ n h. refl)
-counted bound (e ∷ es) apart below =
-    let (own, rest) = and_parts (errand_within e && not (is_some (look es e.number))) (distinct es) apart in
-    let (within, new) = and_parts (errand_within e) (not (is_some (look es e.number))) own in
-    let none = none_is (look es e.number) (not-true (is_some (look es e.number)) new) in
-    let first : sum_to (λ n. cond (eqb e.number n) 1 0) bound ≡ 1 =
-    sum_alone (λ n. cond (eqb e.number n) 1 0) e.number bound (omega arith)
-    (λ n h other. cond-false (eqb e.number n) 1 0 (ne_eqb e.number n (λ same. other (sym same))))
-    ∙ cond-true (eqb e.number e.number) 1 0 (eq-eqb e.number e.number refl) in
-    sum_same (λ n. once (look (e ∷ es) n)) (λ n. cond (eqb e.number n) 1 0 + once (look es n)) bound
-    (λ n h. first_counted e es n none)
-    ∙ omega (
-      arith,
-      sum_both (λ n. cond (eqb e.number n) 1 0) (λ n. once (look es n)) bound,
-      first,
-      counted bound es rest (omega arith),
-    )
+use Rattle.model.proofs.Weights.{list_bound, total_weight, weight_of, weight_of_all_numbers}
 
 -- Queues that hold the same errands.
 record Like (m n : Meaning) : Type 0 where
@@ -76,12 +32,24 @@ record Like (m n : Meaning) : Type 0 where
   sound : Sound m
   sound' : Sound n
 
+-- As many wait in both, since as many wait under each number.
+counted : (es : List Errand) → total_weight (λ _. 1) es ≡ length es
+counted [] = refl
+counted (e ∷ es) = omega (arith, counted es)
+
 like_length : (m n : Meaning) → Like m n → length m.waiting ≡ length n.waiting
 like_length m n like =
-    let bound = bound_of m.waiting + bound_of n.waiting in
-    sym (counted bound m.waiting like.sound.each_once (omega arith))
-    ∙ sum_same (λ k. once (look m.waiting k)) (λ k. once (look n.waiting k)) bound (λ k h. ap once (like.looks k))
-    ∙ counted bound n.waiting like.sound'.each_once (omega arith)
+    let one : Errand → ℕ = λ _. 1 in
+    let bound = list_bound m.waiting + list_bound n.waiting in
+    omega (
+      arith,
+      counted m.waiting,
+      counted n.waiting,
+      weight_of_all_numbers one bound m.waiting like.sound.each_once (omega arith),
+      weight_of_all_numbers one bound n.waiting like.sound'.each_once (omega arith),
+      sum_same (λ k. weight_of one (look m.waiting k)) (λ k. weight_of one (look n.waiting k)) bound
+          (λ k h. ap (weight_of one) (like.looks k)),
+    )
 
 waits_by_length : (es fs : List Errand) (m n : Meaning) → m.waiting ≡ es → n.waiting ≡ fs → length es ≡ length fs →
     waits m ≡ waits n

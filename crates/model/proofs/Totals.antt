@@ -1,11 +1,10 @@
 -- The totals of a run balance, since the accounts of each errand number do: each total is the sum, over the errand
 -- numbers below some bound, of what the accounts say of that number. A bound above every number that occurs exists
 -- since a run and the lists of those that wait are finite, and a list has each number once, so that none of its
--- units is counted twice or passed over.
-use Rattle.std.proofs.Common.{◌≡◌, ℕ, suc, ◌+◌, ◌<◌, ◌≤◌, Bool, true, false, cond, not, ◌&&◌, eqb, List, [], ◌∷◌, is_some, Some, None, Ok, Err, sym, refl, ap, ◌∙◌, ⊎_elim, arith}
-use Rattle.std.proofs.lemmas.Bool.{cases_eq, and_parts, not-true, eq-eqb, ne_eqb, cond-true, cond-false}
+-- units is counted twice or passed over (Weights).
+use Rattle.std.proofs.Common.{◌≡◌, ℕ, suc, ◌+◌, ◌≤◌, Bool, true, false, cond, List, [], ◌∷◌, Ok, Err, refl, ap, ◌∙◌, arith}
 use Rattle.model.specs.Machine.{State, Step, fresh}
-use Rattle.model.specs.Queues.{look, units_in, errand_within, distinct}
+use Rattle.model.specs.Queues.{look, units_in, distinct}
 use Rattle.model.specs.Runs.{Run, stay, step, Trace, total, was_accepted, of_tick, errand_had, given_back, asked_for, is_withdraw, accepted, served, withdrawn}
 use Rattle.model.specs.Totals.{asked, any_errand_had, total_accepted, total_served, total_withdrawn, total_units, TotalsBalance}
 use Rattle.model.specs.declared.calls.Answer.{Answer}
@@ -16,9 +15,9 @@ use Rattle.model.specs.declared.calls.Who.{Who}
 use Rattle.model.specs.declared.calls.Who.TheVariants.{Nobody, Duty as ForDuty, Errand as ForErrand}
 use Rattle.model.specs.declared.duties.Duty.{Duty}
 use Rattle.model.specs.declared.errands.Errand.{Errand}
-use Rattle.model.proofs.Accounts.{units_of, units_looked_up, accounts_kept, run_sound}
-use Rattle.model.proofs.Found.{none_is}
-use Rattle.model.proofs.Sums.{sum_to, sum_none, sum_same, sum_both, sum_alone}
+use Rattle.model.proofs.Accounts.{units_looked_up, accounts_kept, run_sound}
+use Rattle.model.proofs.Weights.{list_bound, total_weight, under_one_number, weight_of, weight_of_all_numbers}
+use Rattle.model.proofs.Sums.{sum_to, sum_none, sum_same, sum_both}
 
 -- Above the errand number that a call, an answer's tick, a run or a list has. A sum of such bounds is above each.
 abbrev call_bound : Call → ℕ
@@ -37,62 +36,26 @@ who_bound (ForErrand n) = suc n
 abbrev step_bound : Call → Answer → ℕ
 step_bound call answer = call_bound call + of_tick who_bound answer
 
-abbrev list_bound : List Errand → ℕ
-list_bound [] = 0
-list_bound (e ∷ es) = suc e.number + list_bound es
-
--- A list has the units of its first errand under that number, and those of the others as they were.
-units_first :
-    (e : Errand) (es : List Errand) (n : ℕ)
-    → look es e.number ≡ None → units_in (e ∷ es) n ≡ cond (eqb e.number n) e.units 0 + units_in es n
-units_first e es n new =
-    ⊎_elim
-    (λ (same : e.number ≡ n).
-    let yes = eq-eqb e.number n same in
-    let first : units_in (e ∷ es) n ≡ e.units =
-    units_looked_up (e ∷ es) n ∙ ap units_of (cond-true (eqb e.number n) (Some e) (look es n) yes) in
-    let none : units_in es n ≡ 0 = rw (← same) (units_looked_up es e.number ∙ ap units_of new) in
-    rw (cond-true (eqb e.number n) e.units 0 yes) (omega arith))
-    (λ (other : e.number ≡ n → ⊥).
-    let no = ne_eqb e.number n other in
-    let others : units_in (e ∷ es) n ≡ units_in es n =
-    units_looked_up (e ∷ es) n
-    ∙ ap units_of (cond-false (eqb e.number n) (Some e) (look es n) no)
-    ∙ sym (units_looked_up es n) in
-    rw (cond-false (eqb e.number n) e.units 0 no) (omega arith))
-    (cases_eq e.number n)
+-- The units of a list, as what is counted of each errand.
+units_weighed : (es : List Errand) → total_weight (λ e. e.units) es ≡ total_units es
+units_weighed [] = refl
+units_weighed (e ∷ es) = ap (λ units. e.units + units) (units_weighed es)
 
 module _ (bound : ℕ) where
   sum_zero : sum_to (λ n. 0) bound ≡ 0
   sum_zero = sum_none (λ n. 0) bound (λ n h. refl)
 
-  -- What stands under one number is what stands under all.
-  under_one_number : (k x : ℕ) → k < bound → sum_to (λ n. cond (eqb k n) x 0) bound ≡ x
-  under_one_number k x below =
-      sum_alone (λ n. cond (eqb k n) x 0) k bound below
-      (λ n h other. cond-false (eqb k n) x 0 (ne_eqb k n (λ same. other (sym same))))
-      ∙ cond-true (eqb k k) x 0 (eq-eqb k k refl)
-
   -- All numbers' units in a list that has each number once are the units in the list.
   units_of_all_numbers : (es : List Errand) → distinct es ≡ true → list_bound es ≤ bound → sum_to (units_in es) bound ≡ total_units es
-  units_of_all_numbers [] apart below = sum_zero
-  units_of_all_numbers (e ∷ es) apart below =
-      let (own, rest) = and_parts (errand_within e && not (is_some (look es e.number))) (distinct es) apart in
-      let (within, new) = and_parts (errand_within e) (not (is_some (look es e.number))) own in
-      let none = none_is (look es e.number) (not-true (is_some (look es e.number)) new) in
-      sum_same (units_in (e ∷ es)) (λ n. cond (eqb e.number n) e.units 0 + units_in es n) bound (λ n h. units_first e es n none)
-      ∙ omega (
-        arith,
-        sum_both (λ n. cond (eqb e.number n) e.units 0) (units_in es) bound,
-        under_one_number e.number e.units (omega arith),
-        units_of_all_numbers es rest (omega arith),
-      )
+  units_of_all_numbers es apart below =
+      sum_same (units_in es) (λ n. weight_of (λ e. e.units) (look es n)) bound (λ n h. units_looked_up es n)
+      ∙ weight_of_all_numbers (λ e. e.units) bound es apart below ∙ units_weighed es
 
   -- What a call asks for all numbers is what it asks; where it was refused that is nothing.
   asked_of_all_numbers : (call : Call) → call_bound call ≤ bound → sum_to (λ n. asked_for n call) bound ≡ asked call
   asked_of_all_numbers (Release i) below = sum_zero
   asked_of_all_numbers (Done i) below = sum_zero
-  asked_of_all_numbers (Request e) below = under_one_number e.number e.units below
+  asked_of_all_numbers (Request e) below = under_one_number bound e.number e.units below
   asked_of_all_numbers (Withdraw n) below = sum_zero
   asked_of_all_numbers Slack below = sum_zero
   asked_of_all_numbers Tick below = sum_zero
@@ -106,7 +69,7 @@ module _ (bound : ℕ) where
   had_of_all_numbers : (who : Who) → who_bound who ≤ bound → sum_to (λ n. errand_had n who) bound ≡ any_errand_had who
   had_of_all_numbers Nobody below = sum_zero
   had_of_all_numbers (ForDuty i) below = sum_zero
-  had_of_all_numbers (ForErrand k) below = under_one_number k 1 below
+  had_of_all_numbers (ForErrand k) below = under_one_number bound k 1 below
 
   served_of_all_numbers :
       (answer : Answer) → of_tick who_bound answer ≤ bound → sum_to (λ n. of_tick (errand_had n) answer) bound ≡ of_tick any_errand_had answer
@@ -129,7 +92,7 @@ module _ (bound : ℕ) where
     withdrawn_of_all_numbers s (Done i) answer s' (Err why, answered, called) below = rw answered sum_zero
     withdrawn_of_all_numbers s (Request e) answer s' (Ok x, answered, requested) below = rw answered sum_zero
     withdrawn_of_all_numbers s (Request e) answer s' (Err why, answered, requested) below = rw answered sum_zero
-    withdrawn_of_all_numbers s (Withdraw k) answer s' one below = under_one_number k (given_back answer) below
+    withdrawn_of_all_numbers s (Withdraw k) answer s' one below = under_one_number bound k (given_back answer) below
     withdrawn_of_all_numbers s Slack answer s' (answered, same) below = rw answered sum_zero
     withdrawn_of_all_numbers s Tick answer s' (Ok told, answered, ticked) below = rw answered sum_zero
     withdrawn_of_all_numbers s Tick answer s' (Err why, answered, ticked) below = rw answered sum_zero
