@@ -1,4 +1,5 @@
 ghost use Rattle.std.specs.Prelude.{◌≡◌};
+ghost use Rattle.model.specs.declared.calls.Answer.TheVariants.{Accepted};
 
 use model::{Answer, Call};
 
@@ -12,7 +13,7 @@ pub struct Entry {
 // A call that is yet to be made, with room for its answer, which is written over when the script is run. No `Option`, which every
 // reader of a script that was run would have to open.
 impl From<Call> for Entry {
-    ghost from_gives = { λ call entry. entry.call ≡ call };
+    ghost from_gives = { λ call entry. entry ≡ record { call = call; answer = Accepted } };
 
     fn from(call: Call) -> Entry {
         Entry {

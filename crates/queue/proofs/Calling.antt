@@ -1,5 +1,5 @@
 -- What the calls on a line make of its meaning.
-use Rattle.std.proofs.Common.{◌≡◌, ℕ, suc, ◌+◌, ◌-◌, ◌<◌, ◌≤◌, Bool, true, false, cond, not, ◌&&◌, eqb, leb, List, [], ◌∷◌, drop, set, is_some, Some, None, Ok, Err, Result, sym, refl, ap, ◌∙◌, subst, sub-one, arith}
+use Rattle.std.proofs.Common.{◌≡◌, ℕ, suc, ◌+◌, ◌-◌, ◌<◌, ◌≤◌, Bool, true, false, cond, not, ◌&&◌, eqb, leb, List, [], ◌∷◌, drop, length, set, is_some, Some, None, Ok, Err, Result, sym, refl, ap, ◌∙◌, subst, sub-one, arith}
 use lib.ListN.{length-map}
 use Rattle.std.specs.List.{slice_get, remove, position_or_len}
 use Rattle.std.specs.Option.{option_map}
@@ -13,7 +13,7 @@ use Rattle.model.specs.declared.refusals.Refusal.TheVariants.{NotWaiting}
 use Rattle.list.specs.Held.{held, fits, Becomes, Inserts}
 use Rattle.list.specs.Order.{same_rank}
 use Rattle.list.specs.declared.ordered.OrderedList.{OrderedList}
-use Rattle.queue.specs.Lines.{errands, line_meaning, place_of, first_number}
+use Rattle.queue.specs.Lines.{OnlyLine, errands, line_meaning, place_of, first_number}
 use Rattle.queue.specs.Ranks.{ranks}
 use Rattle.queue.specs.Slots.{with_units}
 use Rattle.queue.specs.declared.slots.Slot.{Slot}
@@ -26,6 +26,15 @@ use Rattle.queue.proofs.Meanings.{errands_removed, refused_waits, refused_full, 
 pub first_some : (ss : List Slot) (s : Slot) → Some s ≡ slice_get ss 0 → ss ≡ s ∷ drop 1 ss
 first_some [] s h = cc
 first_some (x ∷ ss) s h = let same : x ≡ s = cc in ap (λ y. y ∷ ss) same
+
+-- The list writes no slot behind its entries.
+pub only_line : {R : _} (l m : OrderedList Slot R) (after : List Slot) → Becomes l after m → OnlyLine l m
+only_line l m after done k h = done.beyond k (omega (arith, h, ap length done.holds))
+
+pub only_inserted : {X : Type 0} {R : _} (l m : OrderedList Slot R) (s : Slot) (r : Result X Refusal) → Inserts ranks l s r m →
+    OnlyLine l m
+only_inserted l m s (Ok x) done = only_line l m _ done.1
+only_inserted l m s (Err why) done = λ k _. ap (λ n. drop k n.slots.now) done.2
 
 -- Put
 pub put_waits : {R : _} (X : Type 0) (l : OrderedList Slot R) (e : Errand) (why : Refusal) → errand_within e ≡ true →

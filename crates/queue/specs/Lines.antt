@@ -1,5 +1,5 @@
 -- A line is the ordered list of a queue's slots: what it means, and what it keeps.
-use Rattle.std.specs.Prelude.{◌≡◌, ℕ, true, cond, List, [], ◌∷◌, map, position, is_some, Some, None, Ok, Err, Option, Result, ◌==◌, refl}
+use Rattle.std.specs.Prelude.{◌≡◌, ℕ, ◌≤◌, true, cond, List, [], ◌∷◌, length, drop, map, position, is_some, Some, None, Ok, Err, Option, Result, ◌==◌, refl}
 use Rattle.std.proofs.Common.{arith, ap, length-take, eq-eqb}
 use Rattle.std.proofs.lemmas.List.{length-map}
 use Rattle.model.specs.Queues.{Meaning, Sound, look, distinct, names_right}
@@ -36,6 +36,10 @@ KeptIfRefused l (Err why) m = m ≡ l
 abbrev pub KeptIfNone : {R : _} → OrderedList Slot R → Option ℕ → OrderedList Slot R → Type 0
 KeptIfNone l None m = m ≡ l
 KeptIfNone l (Some n) m = Unit {0}
+
+-- No slot behind the line was written.
+abbrev pub OnlyLine : {R : _} → OrderedList Slot R → OrderedList Slot R → Type 0
+OnlyLine l m = (k : ℕ) → length (held m) ≤ k → drop k m.slots.now ≡ drop k l.slots.now
 
 -- What a line means is sound if no number is in it twice.
 first_named : (es : List Errand) → names_right es (first_number es) ≡ true

@@ -3,7 +3,7 @@ ghost use Rattle.model.specs.Histories.{GoesOn, by_put, by_spend, by_take};
 ghost use Rattle.model.specs.Queues.{distinct, Put, Spend, Take};
 ghost use Rattle.list.specs.Held.{held, places};
 ghost use Rattle.queue.specs.Arrivals.{best_rated};
-ghost use Rattle.queue.specs.Lines.{errands, line_meaning, line_sound, first_number, place_of, KeptIfNone, KeptIfRefused};
+ghost use Rattle.queue.specs.Lines.{errands, line_meaning, line_sound, first_number, place_of, KeptIfNone, KeptIfRefused, OnlyLine};
 ghost use Rattle.queue.specs.Orders.{Arises, line_chooses};
 
 use super::queues::Queue;
@@ -77,6 +77,7 @@ impl<'a, R: Rule> Queue for ErrandQueue<'a, R> {
         ensures means { Put (line_meaning self.old.line) errand result (line_meaning self.new.line) }
         ensures history { GoesOn (Arises R.worth R.units) (held self.old.line) (by_put errand result) (held self.new.line) }
         ensures kept { KeptIfRefused self.old.line result self.new.line }
+        ensures rest { OnlyLine self.old.line self.new.line }
     {
         let slot = Slot::rated::<R>(errand)?;
         if place_of(self.line.entries(), errand.number).is_some() {
@@ -96,6 +97,7 @@ impl<'a, R: Rule> Queue for ErrandQueue<'a, R> {
         ensures means { Spend (line_meaning self.old.line) result (line_meaning self.new.line) }
         ensures history { GoesOn (Arises R.worth R.units) (held self.old.line) (by_spend result) (held self.new.line) }
         ensures kept { KeptIfNone self.old.line result self.new.line }
+        ensures rest { OnlyLine self.old.line self.new.line }
     {
         let slot = self.line.get(0)?;
         let errand = slot.errand();
@@ -111,6 +113,7 @@ impl<'a, R: Rule> Queue for ErrandQueue<'a, R> {
         ensures means { Take (line_meaning self.old.line) number result (line_meaning self.new.line) }
         ensures history { GoesOn (Arises R.worth R.units) (held self.old.line) (by_take number result) (held self.new.line) }
         ensures kept { KeptIfRefused self.old.line result self.new.line }
+        ensures rest { OnlyLine self.old.line self.new.line }
     {
         let place = place_of(self.line.entries(), number).ok_or(Refusal::NotWaiting)?;
         let slot = self.line.remove(place).ok_or(Refusal::NotWaiting)?;

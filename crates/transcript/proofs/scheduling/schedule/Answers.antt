@@ -1,5 +1,6 @@
 use Rattle.std.proofs.Common.{◌+◌, List, sym, ap, subst}
 use Rattle.dispatcher.specs.Scripts.{calls_of}
+use Rattle.dispatcher.specs.declared.entries.Entry.{Entry}
 use Rattle.model.specs.declared.calls.Call.TheVariants.{Tick}
 use Rattle.transcript.proofs.Clocks.{Ahead, ahead_more, all_ahead, due_now, script_more}
 use Rattle.transcript.proofs.Growing.{calls_push}
@@ -20,6 +21,6 @@ loop-clock-preserved c =
     let (so_far, ahead) = c.loop-clock.invariant in (
       script_more ats clock (due clock rest) (calls_of before) (calls_of between) (calls_of after) (due_now clock ats rest ahead)
           so_far c.in_ok-push_due.ensures.calls
-          (calls_push between after c.from.result Tick c.in_ok-push.ensures.items c.from.ensures),
+          (calls_push between after c.from.result Tick c.in_ok-push.ensures.items (ap (λ (e : Entry). e.call) c.from.ensures)),
       subst (λ (ts : List Timed). Ahead (clock + 1) ats ts) (sym c.in_ok-push_due.ensures.rest) (ahead_more clock ats rest ahead),
     )

@@ -1,6 +1,6 @@
 use Rattle.std.proofs.Common.{Some}
 use Rattle.queue.proofs.Arising.{arises_spend}
-use Rattle.queue.proofs.Calling.{last_spent, unit_spent, once_spent}
+use Rattle.queue.proofs.Calling.{last_spent, only_line, unit_spent, once_spent}
 use Rattle.queue.proofs.errand_queue.ErrandQueueQueue.spend.Goals as goal
 
 pub returns-then-errand-le1-clause-history : goal.returns-then-errand-le1-clause-history
@@ -11,6 +11,9 @@ returns-then-errand-le1-clause-history g c =
     last_spent q.line m c.in_ok-slot.slot c.errand-errand.result c.in_ok-slot.ensures c.errand-errand.ensures
     c.if-errand-le1.true c.remove.ensures.becomes q.once in
     arises_spend g.R.Rule.worth g.R.Rule.units q.line m (Some c.errand-errand.result.number) done.spends q.once done.slots
+
+pub returns-then-errand-le1-clause-rest : goal.returns-then-errand-le1-clause-rest
+returns-then-errand-le1-clause-rest g c = only_line c.args.self.now.line c.remove.new.self _ c.remove.ensures.becomes
 
 pub invariant_of-self-else-errand-le1 : goal.invariant_of-self-else-errand-le1
 invariant_of-self-else-errand-le1 g c =
@@ -33,4 +36,5 @@ returns-else-errand-le1 g c =
       history =
           arises_spend g.R.Rule.worth g.R.Rule.units q.line m (Some c.errand-errand.result.number) done.spends q.once done.slots;
       kept = tt;
+      rest = only_line q.line m _ c.replace.ensures.becomes;
     }

@@ -1,10 +1,10 @@
-use Rattle.std.proofs.Common.{◌≡◌, Some, None, Err, ◌∙◌, rules}
+use Rattle.std.proofs.Common.{◌≡◌, Some, None, Err, refl, ◌∙◌, rules}
 use Rattle.std.specs.List.{slice_get}
 use Rattle.model.specs.declared.refusals.Refusal.TheVariants.{NotWaiting}
 use Rattle.list.specs.Held.{held}
 use Rattle.queue.specs.Lines.{place_of}
 use Rattle.queue.proofs.Arising.{arises_take}
-use Rattle.queue.proofs.Calling.{take_found, take_missing, without_is, once_removed}
+use Rattle.queue.proofs.Calling.{only_line, take_found, take_missing, without_is, once_removed}
 use Rattle.queue.proofs.errand_queue.ErrandQueueQueue.take.Goals as goal
 
 pub returns-in_err-place : goal.returns-in_err-place
@@ -16,6 +16,7 @@ returns-in_err-place g c =
       means = take_missing q.line c.args.number c.from_residual.result none refused;
       history = search rules;
       kept = search rules;
+      rest = λ k _. refl;
     }
 
 pub invariant_of-self : goal.invariant_of-self
@@ -38,4 +39,5 @@ returns g c =
           arises_take g.R.Rule.worth g.R.Rule.units q.line m n q.once
           (c.remove.ensures.becomes.holds ∙ without_is n (held q.line) c.in_ok-place.place place);
       kept = tt;
+      rest = only_line q.line m _ c.remove.ensures.becomes;
     }
