@@ -1,14 +1,13 @@
 -- Where the first item of a form ends, and what is left behind it.
-use Rattle.std.proofs.Common.{◌≡◌, ℕ, suc, Bool, true, false, cond, ◌&&◌, eqb, ltb, List, [], ◌∷◌, length, take, drop, is_some, Some, None, Option, add-one, ◌+◌, refl, ap, ◌∙◌, ⊎_elim, arith}
-use Rattle.std.specs.Borrow.{Bor}
+use Rattle.std.proofs.Common.{◌≡◌, ℕ, suc, Bool, true, false, cond, ◌&&◌, eqb, ltb, ◌≤◌, List, [], ◌∷◌, length, take, drop, is_some, Some, None, Option, add-one, ◌+◌, sym, refl, ap, ◌∙◌, ⊎_elim, arith, length-take}
 use Rattle.std.specs.List.{list_all}
-use Rattle.std.specs.Slice.{IsGetRangeResult}
-use Rattle.std.proofs.lemmas.List.{take_rest}
 use Rattle.std.proofs.lemmas.Bool.{cases_Bool}
 use Rattle.std.proofs.lemmas.Bool.Decides.{nat_tests}
 use Rattle.forms.specs.Forms.{space}
-use Rattle.forms.specs.Items.{item_begun_by, item_length, items, items_of, open_after}
+use Rattle.forms.specs.Items.{FromByte, Item, bytes_of, further, item_begun_by, item_length, items, open_after, parts_of, placed}
 use Rattle.forms.specs.Sayings.{all_calls, call}
+use Rattle.forms.specs.declared.faults.Place.{Place}
+use Rattle.forms.specs.declared.lines.Part.{Part}
 
 -- What is left behind the first n bytes and the space after them.
 abbrev pub left_behind : ℕ → List ℕ → List (List ℕ)
@@ -36,25 +35,30 @@ items_split depth [] = refl
 items_split depth (b ∷ bs) =
     ⊎_elim (split_here depth b bs) (λ f. split_later depth b bs f (items_split (open_after depth b) bs)) (cases_Bool (space b && eqb depth 0))
 
--- What stands behind the first n bytes and the space after them, where there is such a part.
-behind_is : (bs : List ℕ) (n : ℕ) (r : Option (Bor (List ℕ))) → IsGetRangeResult bs (n + 1) (length bs) r → items_of r ≡ left_behind n bs
-behind_is bs n None got =
-    let past : ltb n (length bs) ≡ false = ⊎_elim (λ lt. grind (arith, nat_tests)) (λ lt. absurd (omega arith)) got.0 in
+-- What is left behind the first n bytes of a part, where its first item was cut off at n.
+behind_is : (p : Part) (n : ℕ) (r : Option Part) → FromByte p (n + 1) r → parts_of r ≡ placed (further p.place (n + 1)) (left_behind n p.bytes.now)
+behind_is p n None short =
+    let past : ltb n (length p.bytes.now) ≡ false = grind (arith, nat_tests) in
     rw past
-behind_is bs n (Some part) got =
-    let within : ltb n (length bs) ≡ true = grind (arith, nat_tests) in
-    let left : part.now ≡ drop (suc n) bs = got.0.2 ∙ take_rest bs (n + 1) ∙ ap (λ k. drop k bs) (add-one n) in
-    rw (within, left)
+behind_is p n (Some q) (long, bytes, place) =
+    let within : ltb n (length p.bytes.now) ≡ true = grind (arith, nat_tests) in
+    rw (within, bytes, place, add-one n)
 
--- The items of bytes whose first item was cut off at n.
-pub items_cut : (bs : List ℕ) (n : ℕ) (later : Option (Bor (List ℕ)))
-    → n ≡ item_length 0 bs → IsGetRangeResult bs (n + 1) (length bs) later → items 0 bs ≡ take n bs ∷ items_of later
-items_cut bs n later ends got =
-    let split = items_split 0 bs in
-    let behind = behind_is bs n later got ∙ ap (λ k. left_behind k bs) ends in
-    cc
+pub items_cut : (p : Part) (n : ℕ) (later : Option Part)
+    → n ≡ item_length 0 p.bytes.now → n ≤ length p.bytes.now → FromByte p (n + 1) later
+    → placed p.place (items 0 p.bytes.now) ≡ record { bytes = take n p.bytes.now; place = p.place } ∷ parts_of later
+items_cut p n later ends within got =
+    let bs = p.bytes.now in
+    let size : length (take n bs) ≡ n = omega (arith, length-take n bs) in
+    ap (placed p.place) (items_split 0 bs) ∙ rw (sym ends)
+    (rw size (ap (λ is. record { bytes = take n bs; place = p.place } ∷ is) (sym (behind_is p n later got))))
+
+-- The bytes of items that stand one behind the other.
+pub bytes_placed : (p : Place) (is : List (List ℕ)) → bytes_of (placed p is) ≡ is
+bytes_placed p [] = refl
+bytes_placed p (i ∷ is) = ap (λ js. i ∷ js) (bytes_placed (further p (length i + 1)) is)
 
 -- Every item is a call.
-pub all_called : (is : List (List ℕ)) → list_all (λ i. is_some (call i)) is ≡ all_calls is
+pub all_called : (is : List Item) → list_all (λ i. is_some (call i.bytes)) is ≡ all_calls (bytes_of is)
 all_called [] = refl
-all_called (i ∷ is) = ap (λ (rest : Bool). is_some (call i) && rest) (all_called is)
+all_called (i ∷ is) = ap (λ (rest : Bool). is_some (call i.bytes) && rest) (all_called is)

@@ -1,8 +1,9 @@
 -- The items of a form, and the numbers among them.
-use Rattle.std.specs.Prelude.{ℕ, zero, suc, ◌+◌, ◌-◌, ◌*◌, min, Bool, true, cond, ◌&&◌, List, [], ◌∷◌, length, take, drop, Some, None, Option, ◌==◌, nat_le, nat_lt, slice_index}
-use Rattle.std.specs.Borrow.{Bor}
+use Rattle.std.specs.Prelude.{◌≡◌, ◌<◌, ◌≤◌, map, ℕ, zero, suc, ◌+◌, ◌-◌, ◌*◌, min, Bool, true, cond, ◌&&◌, List, [], ◌∷◌, length, take, drop, Some, None, Option, ◌==◌, nat_le, nat_lt, slice_index}
 use Rattle.std.specs.Option.{option_map}
+use Rattle.forms.specs.declared.faults.Place.{Place}
 use Rattle.forms.specs.declared.items.Items.{Items}
+use Rattle.forms.specs.declared.lines.Part.{Part}
 use Rattle.forms.specs.Forms.{closing, digit, opening, space}
 
 -- What stands between a form's first and last byte.
@@ -29,13 +30,51 @@ abbrev pub item_length : ℕ → List ℕ → ℕ
 item_length depth [] = 0
 item_length depth (b ∷ bs) = cond (space b && depth == 0) 0 (suc (item_length (open_after depth b) bs))
 
+-- An item: its bytes, and the place of the first of them.
+pub record Item : Type 0 where
+  pub bytes : List ℕ
+  pub place : Place
+
+-- The item that a part of a text stands for.
+abbrev pub item_of : Part → Item
+item_of p = record { bytes = p.bytes.now; place = p.place }
+
+-- So many bytes further in the same line.
+abbrev pub further : Place → ℕ → Place
+further p n = record { line = p.line; byte = p.byte + n }
+
+-- Items one behind the other, with a space between any two, the first one at a place.
+abbrev pub placed : Place → List (List ℕ) → List Item
+placed p [] = []
+placed p (i ∷ is) = record { bytes = i; place = p } ∷ placed (further p (length i + 1)) is
+
+-- The bytes of items alone.
+abbrev pub bytes_of : List Item → List (List ℕ)
+bytes_of = map (λ i. i.bytes)
+
+-- Where the inside of a form begins. What is shorter than two bytes has none.
+abbrev pub inside_place : Place → List ℕ → Place
+inside_place p bs = cond (nat_le 2 (length bs)) (further p 1) p
+
+-- The items of a form that stands at a place.
+abbrev pub form_items : Place → List ℕ → List Item
+form_items p bs = placed (inside_place p bs) (items 0 (inside bs))
+
 -- The items that are still to be handed out: none, or those of what stands behind the last one and its space.
-abbrev pub items_of : Option (Bor (List ℕ)) → List (List ℕ)
-items_of None = []
-items_of (Some part) = items 0 part.now
+abbrev pub parts_of : Option Part → List Item
+parts_of None = []
+parts_of (Some part) = placed part.place (items 0 part.bytes.now)
+
+abbrev pub parts_left : Items → List Item
+parts_left r = parts_of r.rest
 
 abbrev pub items_left : Items → List (List ℕ)
-items_left r = items_of r.rest
+items_left r = bytes_of (parts_left r)
+
+-- A part from one of its bytes on.
+abbrev pub FromByte : Part → ℕ → Option Part → Type 0
+FromByte p n None = length p.bytes.now < n
+FromByte p n (Some q) = (n ≤ length p.bytes.now) × (q.bytes.now ≡ drop n p.bytes.now) × (q.place ≡ further p.place n)
 
 -- In a form an item that begins with a digit is a number.
 abbrev pub is_number : List ℕ → Bool

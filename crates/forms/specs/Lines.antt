@@ -14,7 +14,7 @@ pub record Line : Type 0 where
 
 -- The line that a part of a text stands for.
 abbrev pub line_of : LinePart → Line
-line_of l = record { bytes = l.part.now; place = l.place; ended = l.ended }
+line_of l = record { bytes = l.part.bytes.now; place = l.part.place; ended = l.ended }
 
 -- The places of the next byte of the same line, and of the first byte of the next line.
 abbrev pub next_byte : Place → Place
@@ -52,7 +52,7 @@ lines_left r = lines r.place (drop r.place.byte r.text.now)
 
 -- A line lies within a text.
 abbrev pub LiesWithin : List ℕ → LinePart → Type 0
-LiesWithin text l = l.place.byte + length l.part.now ≤ length text
+LiesWithin text l = l.part.place.byte + length l.part.bytes.now ≤ length text
 
 -- What a reader hands out, and where it then stands.
 pub record HandsOut (before : Reader) (r : Option LinePart) (after : Reader) : Type 0 where

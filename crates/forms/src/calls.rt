@@ -4,6 +4,7 @@ ghost use Rattle.forms.specs.Items.{items_left};
 ghost use Rattle.forms.specs.Sayings.{all_calls, call, some_calls, worded_call};
 
 use crate::items::Items;
+use crate::lines::Part;
 use crate::numbers::numbers;
 use model::{Call, Errand};
 
@@ -37,15 +38,15 @@ fn worded_call(word: &[u8], items: Items) -> Option<Call>
 }
 
 // The call that an item is, if it is one.
-pub fn call(item: &[u8]) -> Option<Call>
-    ensures { result ≡ call item.now }
+pub fn call(item: Part) -> Option<Call>
+    ensures { result ≡ call item.entry.bytes.now }
 {
-    let [b'(', ..] = item else {
+    let [b'(', ..] = item.bytes else {
         return None;
     };
     let mut items = Items::new(item);
     let word = items.next()?;
-    worded_call(word, items)
+    worded_call(word.bytes, items)
 }
 
 fn all_calls(mut items: Items) -> bool

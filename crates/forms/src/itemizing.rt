@@ -1,18 +1,44 @@
 // Forms taken apart into their items.
 ghost use Rattle.std.specs.Prelude.{◌≡◌, ◌+◌, ◌<◌, ◌≤◌, ◌^◌, length};
-ghost use Rattle.std.specs.Iterator.{item_count, YieldsFirstRef};
+ghost use Rattle.std.specs.Iterator.{item_count, YieldsFirstBy};
 ghost use Rattle.forms.specs.Laws.{TakenApart};
-ghost use Rattle.forms.specs.Items.{inside, item_length, items, items_left, open_after};
+ghost use Rattle.forms.specs.Items.{form_items, inside, inside_place, item_length, item_of, items, items_left, open_after, parts_left, FromByte};
 
+use crate::faults::Place;
 use crate::items::Items;
+use crate::lines::Part;
 
-// What stands between a form's first and last byte.
-pub fn inside(form: &[u8]) -> &[u8]
-    ensures { result.now ≡ inside form.now }
-{
-    match form {
-        [_, inside @ .., _] => inside,
-        _ => &form[..0],
+impl<'a> Part<'a> {
+    // What stands between a form's first and last byte.
+    fn inside(self) -> Part<'a>
+        ensures bytes { result.bytes.now ≡ inside self.entry.bytes.now }
+        ensures place { result.place ≡ inside_place self.entry.place self.entry.bytes.now }
+    {
+        match self.bytes {
+            [_, inside @ .., _] => Part {
+                bytes: inside,
+                place: Place {
+                    byte: self.place.byte + 1,
+                    ..self.place
+                },
+            },
+            _ => Part {
+                bytes: &self.bytes[..0],
+                place: self.place,
+            },
+        }
+    }
+
+    // What stands from one of its bytes on, if it has so many.
+    fn from(self, start: usize) -> Option<Part<'a>>
+        ensures { FromByte self.entry start result }
+    {
+        let bytes = self.bytes.get(start..)?;
+        let place = Place {
+            byte: self.place.byte + start,
+            ..self.place
+        };
+        Some(Part { bytes, place })
     }
 }
 
@@ -46,28 +72,32 @@ fn item_end(bytes: &[u8]) -> usize
 
 impl<'a> Items<'a> {
     // The items of a form.
-    pub fn new(form: &'a [u8]) -> Items<'a>
-        ensures { items_left result ≡ items 0 (inside form.now) }
+    pub fn new(form: Part<'a>) -> Items<'a>
+        ensures parts { parts_left result ≡ form_items form.entry.place form.entry.bytes.now }
+        ensures bytes { items_left result ≡ items 0 (inside form.entry.bytes.now) }
     {
         Items {
-            rest: Some(inside(form)),
+            rest: Some(form.inside()),
         }
     }
 }
 
 impl<'a> Iterator for Items<'a> {
-    type Item = &'a [u8];
+    type Item = Part<'a>;
 
-    ghost next_gives = { YieldsFirstRef items_left };
+    ghost next_gives = { YieldsFirstBy item_of parts_left };
 
-    ghost remaining = { item_count items_left };
+    ghost remaining = { item_count parts_left };
 
     // The next item, as a part of the text.
-    fn next(&mut self) -> Option<&'a [u8]> {
-        let bytes = self.rest?;
-        let end = item_end(bytes);
-        self.rest = bytes.get(end + 1..);
-        Some(&bytes[..end])
+    fn next(&mut self) -> Option<Part<'a>> {
+        let part = self.rest?;
+        let end = item_end(part.bytes);
+        self.rest = part.from(end + 1);
+        Some(Part {
+            bytes: &part.bytes[..end],
+            place: part.place,
+        })
     }
 }
 

@@ -28,13 +28,14 @@ pub fn form_said(line: Line) -> Result<Said, FormsFault>
     ensures { reported forms_told result ≡ form_judged (line_of line.entry) }
 {
     letters(line)?;
-    if !line.ended || !is_form(line.part) {
-        return Err(FormsFault::NotAForm(line.place));
+    let form = line.part;
+    if !line.ended || !is_form(form.bytes) {
+        return Err(FormsFault::NotAForm(form.place));
     }
-    let said = said(line.part).ok_or(FormsFault::WrongItems(line.place))?;
-    if is_remark(line.part) || numbers_fit(line.part) && end_fits(said) {
+    let said = said(form).ok_or(FormsFault::WrongItems(form.place))?;
+    if is_remark(form.bytes) || numbers_fit(form.bytes) && end_fits(said) {
         Ok(said)
     } else {
-        Err(FormsFault::TooLarge(line.place))
+        Err(FormsFault::TooLarge(form.place))
     }
 }

@@ -4,7 +4,7 @@ ghost use Rattle.forms.specs.Faults.{failing, letters_told};
 ghost use Rattle.forms.specs.Lines.{allowed, bad_letter};
 
 use crate::faults::{LettersFault, Place};
-use crate::lines::Line;
+use crate::lines::{Line, Part};
 
 fn allowed(b: u8) -> bool
     ensures { result ≡ allowed b }
@@ -21,13 +21,14 @@ fn first_bad(bytes: &[u8]) -> Option<usize>
 
 // The first byte that is not allowed is a fault.
 pub fn letters(line: Line) -> Result<(), LettersFault>
-    ensures { failing letters_told result ≡ bad_letter line.entry.place line.entry.part.now }
+    ensures { failing letters_told result ≡ bad_letter line.entry.part.place line.entry.part.bytes.now }
 {
-    match first_bad(line.part) {
+    let Part { bytes, place } = line.part;
+    match first_bad(bytes) {
         None => Ok(()),
         Some(ahead) => Err(LettersFault(Place {
-            byte: line.place.byte + ahead,
-            ..line.place
+            byte: place.byte + ahead,
+            ..place
         })),
     }
 }

@@ -21,7 +21,7 @@ pub use faults::{FormsFault, LettersFault, Place};
 pub use itemizing::taken_apart;
 pub use items::Items;
 pub use judging::form_said;
-pub use lines::{Line, Reader};
+pub use lines::{Line, Part, Reader};
 pub use numbers::numbers_by_value;
 pub use sayings::{QueueName, Said};
 pub use shapes::forms_by_grammar;

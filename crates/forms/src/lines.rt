@@ -2,14 +2,34 @@ ghost use Rattle.std.specs.Prelude.{◌+◌, ◌^◌, ◌<◌, ◌≤◌, length
 
 use super::Place;
 
-// A line of a text: a part of the text, without the byte that ends it, and its place. `ended` says whether that byte is there,
-// which only the last line may lack; no other field depends on it.
+// A part of a text, and where it begins: a line, or an item of a form.
+#[derive(Clone, Copy)]
+pub struct Part<'a> {
+    pub bytes: &'a [u8],
+    pub place: Place,
+    ghost fits: { place.byte + length bytes.now < 2 ^ 64 },
+}
+
+// No bytes, and no place in a text.
+impl Default for Part<'_> {
+    ghost use Rattle.std.specs.Prelude.{◌≡◌, []};
+
+    ghost is_default = { λ part. (part.bytes.now ≡ []) × (part.place ≡ record { line = 0; byte = 0 }) };
+
+    fn default() -> Self {
+        Part {
+            bytes: &[],
+            place: Place { line: 0, byte: 0 },
+        }
+    }
+}
+
+// A line of a text, without the byte that ends it. `ended` says whether that byte is there, which only the last line may lack; no
+// other field depends on it.
 #[derive(Clone, Copy)]
 pub struct Line<'a> {
-    pub part: &'a [u8],
-    pub place: Place,
+    pub part: Part<'a>,
     pub ended: bool,
-    ghost fits: { place.byte + length part.now < 2 ^ 64 },
 }
 
 // A reader over the bytes of a text: `place` is where its next line begins.

@@ -58,10 +58,10 @@ pub fn numbers<const N: usize>(mut items: Items) -> Option<[u32; N]>
     let mut values = [0; N];
     for number in values.iter_mut() {
         let item = items.next()?;
-        if !is_number(item) {
+        if !is_number(item.bytes) {
             return None;
         }
-        *number = value(item);
+        *number = value(item.bytes);
     }
     items.next().is_none().then_some(values)
 }

@@ -4,7 +4,7 @@ ghost use Rattle.std.specs.Iterator.{item_count};
 ghost use Rattle.forms.specs.Lines.{first_place, HandsOut, line_length, lines, lines_left};
 
 use crate::faults::Place;
-use crate::lines::{Line, Reader};
+use crate::lines::{Line, Part, Reader};
 
 // How long the first line of these bytes is: up to the first byte 10, or all of them.
 fn line_length(bytes: &[u8]) -> usize
@@ -60,7 +60,8 @@ impl<'a> Iterator for Reader<'a> {
             line: place.line + 1,
             byte: text.len().min(start + length + 1),
         };
-        let part = &rest[..length];
-        Some(Line { part, place, ended })
+        let bytes = &rest[..length];
+        let part = Part { bytes, place };
+        Some(Line { part, ended })
     }
 }

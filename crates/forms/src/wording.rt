@@ -6,6 +6,7 @@ ghost use Rattle.forms.specs.Sayings.{at_said, duty_said, end_said, queue_said, 
 
 use crate::calls::some_calls;
 use crate::items::Items;
+use crate::lines::Part;
 use crate::numbers::{is_number, numbers, value};
 use crate::sayings::{QueueName, Said};
 use crate::shapes::is_remark;
@@ -36,7 +37,7 @@ fn queue_said(mut items: Items) -> Option<Said>
     ensures { result ≡ queue_said (items_left items.entry) }
 {
     let name = items.next()?;
-    match (name, items.next()) {
+    match (name.bytes, items.next()) {
         (b"first", None) => Some(Said::Queue(QueueName::First)),
         (b"worth", None) => Some(Said::Queue(QueueName::Worth)),
         _ => None,
@@ -47,7 +48,7 @@ fn at_said(mut items: Items) -> Option<Said>
     ensures { result ≡ at_said (items_left items.entry) }
 {
     let clock = items.next()?;
-    (is_number(clock) && some_calls(items)).then(|| Said::At(value(clock)))
+    (is_number(clock.bytes) && some_calls(items)).then(|| Said::At(value(clock.bytes)))
 }
 
 fn end_said(items: Items) -> Option<Said>
@@ -72,13 +73,13 @@ fn worded(word: &[u8], items: Items) -> Option<Said>
 }
 
 // What a line that is a form says, if its items are what its word wants.
-pub fn said(part: &[u8]) -> Option<Said>
-    ensures { result ≡ said part.now }
+pub fn said(part: Part) -> Option<Said>
+    ensures { result ≡ said part.entry.bytes.now }
 {
-    if is_remark(part) {
+    if is_remark(part.bytes) {
         return Some(Said::Remark);
     }
     let mut items = Items::new(part);
     let word = items.next()?;
-    worded(word, items)
+    worded(word.bytes, items)
 }

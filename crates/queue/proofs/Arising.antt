@@ -1,5 +1,6 @@
 -- How a line goes on from what arrived to what then waits, call by call.
 use Rattle.std.proofs.Common.{◌≡◌, ℕ, ◌-◌, pred, true, false, cond, eqb, leb, List, [], ◌∷◌, ◌++◌, map, Some, None, Ok, Err, Option, Result, sym, refl, ap, ◌∙◌, sub-one}
+use mathlib.Core.Logic.{∥∥₁_map}
 use Rattle.std.specs.List.{cons_option, filter_map}
 use Rattle.std.specs.Option.{option_map}
 use Rattle.std.proofs.lemmas.List.{map_push}
@@ -13,7 +14,7 @@ use Rattle.list.specs.Order.{placed}
 use Rattle.list.specs.declared.ordered.OrderedList.{OrderedList}
 use Rattle.queue.specs.Arrivals.{Arrival, Rated, after, after_all, arrived, gone, rated, worked}
 use Rattle.queue.specs.Lines.{errands, line_meaning}
-use Rattle.queue.specs.Orders.{Arises, rated_in}
+use Rattle.queue.specs.Orders.{Arises, Arose, rated_in}
 use Rattle.queue.specs.Ranks.{ranks}
 use Rattle.queue.specs.Slots.{Holds, with_units}
 use Rattle.queue.specs.declared.slots.Slot.{Slot}
@@ -108,6 +109,11 @@ module _ (worth units : Errand → ℕ) where
       after_all came (past ++ x ∷ []) ≡ after (after_all came past) x
   after_push came [] x = refl
   after_push came (y ∷ past) x = after_push (after came y) past x
+
+  -- A line that goes on by what was added came about by some history.
+  pub still_arose : (line line' : List Slot) (added : History) → GoesOn (Arises worth units) line added line' →
+      Arose worth units line → Arose worth units line'
+  still_arose line line' added goes_on arose = ∥∥₁_map arose (λ (past, h). (past ++ added, goes_on past h))
 
   pub arises_put : {X : Type 0} {R : _} (l m : OrderedList Slot R) (s : Slot) (e : Errand) (r : Result X Refusal) →
       Holds e (worth e) (units e) s → Inserts ranks l s r m → GoesOn (Arises worth units) (held l) (by_put e r) (held m)

@@ -27,6 +27,10 @@ pub record Arises (worth units : Errand → ℕ) (past : History) (line : List S
   pub stands : line ≡ joining [] came
   pub arrivals : map rated_in came ≡ map (rated worth units) (arrived past)
 
+-- A line came about by some history.
+abbrev pub Arose : (worth units : Errand → ℕ) → List Slot → Type 0
+Arose worth units line = ∥ ((past : History) × Arises worth units past line) ∥₁
+
 -- The first of a line that b leads is the best of b and of those that join.
 first_joining : (b : Slot) (line came : List Slot) →
     first_number (errands (joining (b ∷ line) came)) ≡ Some (best_from (rated_in b) (map rated_in came)).errand.number

@@ -4,7 +4,7 @@ ghost use Rattle.model.specs.Queues.{distinct, Put, Spend, Take};
 ghost use Rattle.list.specs.Held.{held, places};
 ghost use Rattle.queue.specs.Arrivals.{best_rated};
 ghost use Rattle.queue.specs.Lines.{errands, line_meaning, line_sound, first_number, place_of, KeptIfNone, KeptIfRefused, OnlyLine};
-ghost use Rattle.queue.specs.Orders.{Arises, line_chooses};
+ghost use Rattle.queue.specs.Orders.{Arises, Arose, line_chooses};
 
 use super::queues::Queue;
 use super::rules::{Alike, Rule, WorthForUnits};
@@ -16,10 +16,11 @@ use std::marker::PhantomData;
 // A queue that serves first the errand that its rule rates best, and of those rated alike the one put first. Its
 // line stands in the order in which its errands are served.
 #[derive(Drop)]
-pub struct ErrandQueue<'a, R> {
+pub struct ErrandQueue<'a, R: Rule> {
     line: OrderedList<'a, Slot>,
     rule: PhantomData<R>,
     ghost once: { distinct (errands (held line)) ≡ true },
+    pub ghost arose: { Arose R.worth R.units (held line) },
 }
 
 // The queue that serves errands as they come.

@@ -15,7 +15,7 @@ pub record AtLine : Type 0 where
 
 -- The at-line that a part of a text stands for.
 abbrev pub at_of : At → AtLine
-at_of a = record { clock = a.clock; place = a.place; bytes = a.part.now }
+at_of a = record { clock = a.clock; place = a.part.place; bytes = a.part.bytes.now }
 
 -- The calls that items are, up to the first that is none.
 abbrev pub calls_in : List (List ℕ) → List Call

@@ -60,10 +60,10 @@ impl<'a> Draft<'a> {
     {
         let said = form_said(line)?;
         if !in_order(self.stage, said) {
-            return Err(SheetFault::OutOfOrder(line.place));
+            return Err(SheetFault::OutOfOrder(line.part.place));
         }
         if !self.has_room(said) {
-            return Err(SheetFault::TooLong(line.place));
+            return Err(SheetFault::TooLong(line.part.place));
         }
         Ok(said)
     }
@@ -88,7 +88,7 @@ impl<'a> Draft<'a> {
                 self.stage = Stage::Duties;
                 Ok(())
             }
-            Said::Duty(place, duty) => self.add(line.place, place, duty),
+            Said::Duty(place, duty) => self.add(line.part.place, place, duty),
             Said::Queue(name) => {
                 self.stage = Stage::Ats;
                 self.sheet.queue = name;
@@ -97,7 +97,6 @@ impl<'a> Draft<'a> {
             Said::At(clock) => {
                 self.sheet.ats.push(At {
                     clock,
-                    place: line.place,
                     part: line.part,
                 });
                 Ok(())

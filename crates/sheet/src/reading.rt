@@ -22,7 +22,7 @@ fn on_time(ats: &[At], ticks: u32) -> Result<(), SheetFault>
 {
     match ats.iter().find(|at| at.clock >= ticks) {
         None => Ok(()),
-        Some(at) => Err(SheetFault::OutOfOrder(at.place)),
+        Some(at) => Err(SheetFault::OutOfOrder(at.part.place)),
     }
 }
 

@@ -1,5 +1,6 @@
 // A sheet that is read, and a fault of each layer.
 use crate::read;
+use forms::{Items, Place};
 use model::Call;
 use std::alloc::{AllocError, Global};
 use std::test::Fail;
@@ -27,6 +28,9 @@ fn a_sheet_is_read(rt: HostRuntime) -> Result<(), Fail> {
     assert!(rt; matches!(calls.next(), Some(Call::Release(0))));
     assert!(rt; matches!(calls.next(), Some(Call::Request(_))));
     assert!(rt; calls.next().is_none());
+    let release = Items::new(ats[0].part).nth(2);
+    assert!(rt; release.is_some_and(|form| form.bytes == b"(release 0)".as_slice()));
+    assert!(rt; release.is_some_and(|form| form.place == Place { line: 6, byte: 80 }));
     Ok(())
 }
 

@@ -1,6 +1,6 @@
-use Rattle.std.proofs.Common.{sym, ◌∙◌, arith}
+use Rattle.std.proofs.Common.{sym, ap, ◌∙◌, arith}
 use Rattle.std.proofs.lemmas.List.{length-set}
-use Rattle.forms.specs.Items.{items_left, numbers}
+use Rattle.forms.specs.Items.{bytes_of, items_left, numbers}
 use Rattle.forms.proofs.Numbered.{number_read}
 use Rattle.forms.proofs.numbers.numbers.Goals as goal
 
@@ -8,9 +8,9 @@ pub loop-number-preserved : goal.loop-number-preserved
 loop-number-preserved g c =
     let values = c.loop-number.number-items in
     let k = c.loop-number.number-index in
-    let item = c.in_ok-item.item.now in (
+    let item = c.in_ok-item.item.bytes.now in (
       length-set values k c.value.result ∙ c.loop-number.invariant.0,
       rw c.value.ensures
           (number_read g.row.N k values (items_left c.loop-number.items) (numbers g.row.N (items_left c.args.items)) item (items_left c.next.new.self) (omega arith) (omega (arith, c.loop-number.invariant.0))
-          c.in_ok-item.ensures.steps (sym c.if-not-is_number.ensures) c.loop-number.invariant.1),
+          (ap bytes_of c.in_ok-item.ensures.steps) (sym c.if-not-is_number.ensures) c.loop-number.invariant.1),
     )

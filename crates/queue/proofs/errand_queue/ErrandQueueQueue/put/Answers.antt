@@ -1,8 +1,9 @@
 use Rattle.std.proofs.Common.{◌≡◌, true, false, is_some, refl}
+use Rattle.model.specs.Histories.{by_put}
 use Rattle.model.specs.declared.refusals.Refusal.TheVariants.{AlreadyWaiting}
 use Rattle.list.specs.Held.{held}
 use Rattle.queue.specs.Lines.{place_of}
-use Rattle.queue.proofs.Arising.{arises_put}
+use Rattle.queue.proofs.Arising.{arises_put, still_arose}
 use Rattle.queue.proofs.Calling.{only_inserted, put_waits, put_inserted, once_put}
 use Rattle.queue.proofs.errand_queue.ErrandQueueQueue.put.Goals as goal
 
@@ -20,7 +21,15 @@ invariant_of-self g c =
     let put =
     put_inserted q.line c.insert.new.self c.in_ok-slot.slot c.args.errand c.insert.result c.insert.ensures none
     made.1.errand made.0 q.once in
-    record { once = once_put q.line c.insert.new.self c.args.errand c.insert.result put q.once }
+    let goes_on =
+    arises_put g.R.Rule.worth g.R.Rule.units q.line c.insert.new.self c.in_ok-slot.slot c.args.errand c.insert.result made.1
+    c.insert.ensures in
+    record {
+      once = once_put q.line c.insert.new.self c.args.errand c.insert.result put q.once;
+      arose =
+          still_arose g.R.Rule.worth g.R.Rule.units (held q.line) (held c.insert.new.self) (by_put c.args.errand c.insert.result)
+          goes_on q.arose;
+    }
 
 pub returns-clause-means : goal.returns-clause-means
 returns-clause-means g c =

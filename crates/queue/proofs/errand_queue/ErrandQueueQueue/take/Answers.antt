@@ -1,9 +1,10 @@
-use Rattle.std.proofs.Common.{◌≡◌, Some, None, Err, refl, ◌∙◌, rules}
+use Rattle.std.proofs.Common.{◌≡◌, [], ◌∷◌, Some, None, Err, refl, ◌∙◌, rules}
 use Rattle.std.specs.List.{slice_get}
+use Rattle.model.specs.Histories.{was_taken}
 use Rattle.model.specs.declared.refusals.Refusal.TheVariants.{NotWaiting}
 use Rattle.list.specs.Held.{held}
 use Rattle.queue.specs.Lines.{place_of}
-use Rattle.queue.proofs.Arising.{arises_take}
+use Rattle.queue.proofs.Arising.{arises_take, still_arose}
 use Rattle.queue.proofs.Calling.{only_line, take_found, take_missing, without_is, once_removed}
 use Rattle.queue.proofs.errand_queue.ErrandQueueQueue.take.Goals as goal
 
@@ -22,7 +23,16 @@ returns-in_err-place g c =
 pub invariant_of-self : goal.invariant_of-self
 invariant_of-self g c =
     let q = c.args.self.now in
-    record { once = once_removed q.line c.remove.new.self c.in_ok-place.place c.remove.ensures.becomes q.once }
+    let m = c.remove.new.self in
+    let n = c.args.number in
+    let place : place_of n (held q.line) ≡ Some c.in_ok-place.place = cc (c.in_ok-place.ensures.ok_part) in
+    let goes_on =
+    arises_take g.R.Rule.worth g.R.Rule.units q.line m n q.once
+    (c.remove.ensures.becomes.holds ∙ without_is n (held q.line) c.in_ok-place.place place) in
+    record {
+      once = once_removed q.line m c.in_ok-place.place c.remove.ensures.becomes q.once;
+      arose = still_arose g.R.Rule.worth g.R.Rule.units (held q.line) (held m) (was_taken n ∷ []) goes_on q.arose;
+    }
 
 pub returns : goal.returns
 returns g c =
