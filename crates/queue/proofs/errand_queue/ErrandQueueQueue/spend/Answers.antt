@@ -1,4 +1,4 @@
-use Rattle.std.proofs.Common.{Some}
+use Rattle.std.proofs.Common.{Some, refl}
 use Rattle.model.specs.Histories.{by_spend}
 use Rattle.list.specs.Held.{held}
 use Rattle.queue.proofs.Arising.{arises_spend, still_arose}
@@ -58,4 +58,5 @@ returns-else-errand-le1 g c =
           arises_spend g.R.Rule.worth g.R.Rule.units q.line m (Some c.errand-errand.result.number) done.spends q.once done.slots;
       untouched = λ added. cc;
       rest = only_line q.line m _ c.replace.ensures.becomes;
+      beyond = refl;
     }

@@ -16,8 +16,9 @@ returns-in_err-place g c =
     record {
       means = take_missing q.line c.args.number c.from_residual.result none refused;
       history = search rules;
-      untouched = λ _. refl;
+      untouched = λ _. (refl, refl);
       rest = λ k _. refl;
+      beyond = refl;
     }
 
 pub invariant_of-self : goal.invariant_of-self
@@ -50,4 +51,5 @@ returns g c =
           (c.remove.ensures.becomes.holds ∙ without_is n (held q.line) c.in_ok-place.place place);
       untouched = λ added. cc;
       rest = only_line q.line m _ c.remove.ensures.becomes;
+      beyond = refl;
     }
