@@ -5,6 +5,7 @@ ghost use Rattle.list.specs.Held.{held, places};
 ghost use Rattle.queue.specs.Arrivals.{best_rated};
 ghost use Rattle.queue.specs.Lines.{errands, line_meaning, line_sound, first_number, place_of, OnlyLine};
 ghost use Rattle.queue.specs.Orders.{Arises, Arose, line_chooses};
+ghost use Rattle.queue.specs.Untouched.{Left};
 
 use super::queues::Queue;
 use super::rules::{Alike, Rule, WorthForUnits};
@@ -122,3 +123,9 @@ impl<'a, R: Rule> Queue for ErrandQueue<'a, R> {
         Ok(slot.errand().units)
     }
 }
+
+// However many calls were refused and spends found nothing, one after the other, the line of a queue and every slot
+// handed to it are what they were.
+pub fn left_as_it_was<R: Rule>()
+    ensures { (q r : ErrandQueue R R.Rule) → Left ⟦<ErrandQueue<'static, R> as Queue>⟧.untouched q r → (r.line ≡ q.line) × (r.beyond ≡ q.beyond) }
+{}
