@@ -3,7 +3,7 @@ ghost use Rattle.list.specs.Order.{by_number, by_number_strict, by_number_chain}
 use super::ranked::Ranked;
 
 // An entry with a number, the smaller before the larger.
-#[derive(Clone, Copy, Default)]
+#[derive(Clone, Copy, Default, Drop)]
 pub struct Numbered<T> {
     pub number: u32,
     pub entry: T,
