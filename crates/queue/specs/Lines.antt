@@ -1,7 +1,9 @@
 -- A line is the ordered list of a queue's slots: what it means, and what it keeps.
-use Rattle.std.specs.Prelude.{◌≡◌, ℕ, ◌≤◌, true, cond, List, [], ◌∷◌, length, drop, map, position, is_some, Some, None, Option, ◌==◌, refl}
+use Rattle.std.specs.Prelude.{◌≡◌, ℕ, Bool, true, cond, List, [], ◌∷◌, drop, map, position, is_some, Some, None, Option, ◌==◌, nat_le, refl}
+use Rattle.std.specs.List.{cons_option, find}
 use Rattle.std.proofs.Common.{arith, ap, length-take, eq-eqb}
 use Rattle.std.proofs.lemmas.List.{length-map}
+use Rattle.model.specs.Histories.{Event, History, was_put, was_spent, was_taken}
 use Rattle.model.specs.Queues.{Meaning, Sound, look, distinct, names_right}
 use Rattle.model.specs.declared.errands.Errand.{Errand}
 use Rattle.list.specs.Held.{held, places}
@@ -23,13 +25,30 @@ abbrev pub line_meaning : {R : _} → OrderedList Slot R → Meaning
 line_meaning l =
     record { waiting = errands (held l); named = first_number (errands (held l)); places = places l }
 
+-- The slot holds the errand of a number.
+abbrev pub numbered : ℕ → Slot → Bool
+numbered n s = s.errand.number == n
+
 -- The place of the errand of a number, if it waits.
 abbrev pub place_of : ℕ → List Slot → Option ℕ
-place_of n = position (λ s. s.errand.number == n)
+place_of n = position (numbered n)
 
--- No slot behind the line was written.
-abbrev pub OnlyLine : {R : _} → OrderedList Slot R → OrderedList Slot R → Type 0
-OnlyLine l m = (k : ℕ) → length (held m) ≤ k → drop k m.slots.now ≡ drop k l.slots.now
+-- The slot of an errand that has its last unit, if such is there.
+abbrev pub with_last_unit : Option Slot → Option Slot
+with_last_unit None = None
+with_last_unit (Some s) = cond (nat_le s.errand.units 1) (Some s) None
+
+-- The free slots of a line after an event, from the slots that held errands before it and those that were free. A put takes the
+-- first free slot. The slot of an errand that is taken, or whose last unit is spent, becomes the first free slot, as it was.
+abbrev pub freed : List Slot → List Slot → Event → List Slot
+freed line free (was_put e) = drop 1 free
+freed line free (was_spent n) = cons_option (with_last_unit (find (numbered n) line)) free
+freed line free (was_taken n) = cons_option (find (numbered n) line) free
+
+-- The same after a call, from the event that it added if any.
+abbrev pub free_after : List Slot → List Slot → History → List Slot
+free_after line free [] = free
+free_after line free (x ∷ xs) = freed line free x
 
 -- What a line means is sound if no number is in it twice.
 first_named : (es : List Errand) → names_right es (first_number es) ≡ true

@@ -1,9 +1,9 @@
 ghost use Rattle.std.specs.Prelude.{◌≡◌, true, min, [], length, ◌++◌};
 ghost use Rattle.model.specs.Histories.{GoesOn, by_put, by_spend, by_take};
 ghost use Rattle.model.specs.Queues.{distinct, Put, Spend, Take};
-ghost use Rattle.list.specs.Held.{held, places};
+ghost use Rattle.list.specs.Held.{held, free_slots, places};
 ghost use Rattle.queue.specs.Arrivals.{best_rated};
-ghost use Rattle.queue.specs.Lines.{errands, line_meaning, line_sound, first_number, place_of, OnlyLine};
+ghost use Rattle.queue.specs.Lines.{errands, line_meaning, line_sound, first_number, free_after, place_of};
 ghost use Rattle.queue.specs.Orders.{Arises, Arose, line_chooses};
 ghost use Rattle.queue.specs.Untouched.{Left};
 
@@ -77,7 +77,7 @@ impl<'a, R: Rule> Queue for ErrandQueue<'a, R> {
         ensures means { Put (line_meaning self.old.line) errand result (line_meaning self.new.line) }
         ensures history { GoesOn (Arises R.worth R.units) (held self.old.line) (by_put errand result) (held self.new.line) }
         ensures untouched { by_put errand result ≡ [] → (self.new.line ≡ self.old.line) × (self.new.beyond ≡ self.old.beyond) }
-        ensures rest { OnlyLine self.old.line self.new.line }
+        ensures rest { free_slots self.new.line ≡ free_after (held self.old.line) (free_slots self.old.line) (by_put errand result) }
         ensures beyond { self.new.beyond ≡ self.old.beyond }
     {
         let slot = Slot::rated::<R>(errand)?;
@@ -98,15 +98,15 @@ impl<'a, R: Rule> Queue for ErrandQueue<'a, R> {
         ensures means { Spend (line_meaning self.old.line) result (line_meaning self.new.line) }
         ensures history { GoesOn (Arises R.worth R.units) (held self.old.line) (by_spend result) (held self.new.line) }
         ensures untouched { by_spend result ≡ [] → (self.new.line ≡ self.old.line) × (self.new.beyond ≡ self.old.beyond) }
-        ensures rest { OnlyLine self.old.line self.new.line }
+        ensures rest { free_slots self.new.line ≡ free_after (held self.old.line) (free_slots self.old.line) (by_spend result) }
         ensures beyond { self.new.beyond ≡ self.old.beyond }
     {
-        let slot = self.line.get(0)?;
+        let slot = *self.line.get(0)?;
         let errand = slot.errand();
         if errand.units <= 1 {
-            let _ = self.line.remove(0);
+            self.line.remove(0);
         } else {
-            let _ = self.line.replace(0, slot.with_units(errand.units - 1));
+            self.line.replace(0, slot.with_units(errand.units - 1));
         }
         Some(errand.number)
     }
@@ -115,12 +115,13 @@ impl<'a, R: Rule> Queue for ErrandQueue<'a, R> {
         ensures means { Take (line_meaning self.old.line) number result (line_meaning self.new.line) }
         ensures history { GoesOn (Arises R.worth R.units) (held self.old.line) (by_take number result) (held self.new.line) }
         ensures untouched { by_take number result ≡ [] → (self.new.line ≡ self.old.line) × (self.new.beyond ≡ self.old.beyond) }
-        ensures rest { OnlyLine self.old.line self.new.line }
+        ensures rest { free_slots self.new.line ≡ free_after (held self.old.line) (free_slots self.old.line) (by_take number result) }
         ensures beyond { self.new.beyond ≡ self.old.beyond }
     {
         let place = place_of(self.line.entries(), number).ok_or(Refusal::NotWaiting)?;
-        let slot = self.line.remove(place).ok_or(Refusal::NotWaiting)?;
-        Ok(slot.errand().units)
+        let units = self.line.entries()[place].errand().units;
+        self.line.remove(place);
+        Ok(units)
     }
 }
 
