@@ -1,4 +1,4 @@
--- A line is the ordered list of a queue's slots: what it means, and what it keeps.
+-- A line is the ordered list of a queue's slots: what it means, and what its free slots hold after each call.
 use Rattle.std.specs.Prelude.{◌≡◌, ℕ, Bool, true, cond, List, [], ◌∷◌, drop, map, position, is_some, Some, None, Option, ◌==◌, nat_le, refl}
 use Rattle.std.specs.List.{cons_option, find}
 use Rattle.std.proofs.Common.{arith, ap, length-take, eq-eqb}
@@ -33,19 +33,19 @@ numbered n s = s.errand.number == n
 abbrev pub place_of : ℕ → List Slot → Option ℕ
 place_of n = position (numbered n)
 
--- The slot of an errand that has its last unit, if such is there.
+-- A slot whose errand has its last unit, if there is such a slot.
 abbrev pub with_last_unit : Option Slot → Option Slot
 with_last_unit None = None
 with_last_unit (Some s) = cond (nat_le s.errand.units 1) (Some s) None
 
--- The free slots of a line after an event, from the slots that held errands before it and those that were free. A put takes the
--- first free slot. The slot of an errand that is taken, or whose last unit is spent, becomes the first free slot, as it was.
+-- The free slots after an event, from those that held errands before it, the line, and those that were free. A put takes the first
+-- free slot. The slot of an errand that is taken, or whose last unit is spent, is the first free slot from then on, as it was.
 abbrev pub freed : List Slot → List Slot → Event → List Slot
 freed line free (was_put e) = drop 1 free
 freed line free (was_spent n) = cons_option (with_last_unit (find (numbered n) line)) free
 freed line free (was_taken n) = cons_option (find (numbered n) line) free
 
--- The same after a call, from the event that it added if any.
+-- The free slots after a call, from what it added to the history: one event, or none, where they stay as they are.
 abbrev pub free_after : List Slot → List Slot → History → List Slot
 free_after line free [] = free
 free_after line free (x ∷ xs) = freed line free x

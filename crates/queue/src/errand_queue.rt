@@ -19,7 +19,7 @@ use std::marker::PhantomData;
 #[derive(Drop)]
 pub struct ErrandQueue<'a, R: Rule> {
     line: OrderedList<'a, Slot>,
-    // The slots past its places. They are kept so that each call can say that it writes none of them.
+    // The slots past its places. The queue keeps them for its contracts: no call writes one of them.
     beyond: &'a mut [Slot],
     rule: PhantomData<R>,
     ghost once: { distinct (errands (held line)) ≡ true },
@@ -125,8 +125,8 @@ impl<'a, R: Rule> Queue for ErrandQueue<'a, R> {
     }
 }
 
-// However many calls were refused and spends found nothing, one after the other, the line of a queue and every slot
-// handed to it are what they were.
+// After any number of refused calls and of spends that find nothing, one after the other, the line of a queue and every slot
+// handed to it are as they were.
 pub fn left_as_it_was<R: Rule>()
     ensures { (q r : ErrandQueue R R.Rule) → Left ⟦<ErrandQueue<'static, R> as Queue>⟧.untouched q r → (r.line ≡ q.line) × (r.beyond ≡ q.beyond) }
 {}
