@@ -1,40 +1,37 @@
 -- What the calls on a line make of its meaning.
-use Rattle.std.proofs.Common.{◌≡◌, ℕ, suc, ◌+◌, ◌-◌, ◌<◌, ◌≤◌, Bool, true, false, cond, not, ◌&&◌, eqb, leb, List, [], ◌∷◌, drop, length, set, is_some, Some, None, Ok, Err, Result, sym, refl, ap, ◌∙◌, subst, sub-one, arith}
+use Rattle.std.proofs.Common.{◌≡◌, ℕ, suc, ◌+◌, ◌-◌, ◌<◌, ◌≤◌, Bool, true, false, cond, not, ◌&&◌, eqb, leb, List, [], ◌∷◌, drop, get_or, length, set, is_some, Some, None, Ok, Err, Result, sym, refl, ap, ◌∙◌, subst, sub-one, arith, eq-eqb}
 use lib.ListN.{length-map}
-use Rattle.std.specs.List.{slice_get, remove, position_or_len}
+use Rattle.std.specs.List.{cons_option, find, slice_get, remove, position_or_len}
 use Rattle.std.specs.Option.{option_map}
-use Rattle.std.proofs.lemmas.Option.{slice_get-map}
+use Rattle.std.proofs.lemmas.List.Quantifiers.{position-Some}
+use Rattle.std.proofs.lemmas.Option.{slice_get-map, slice_get_read}
 use Rattle.std.proofs.lemmas.Bool.{cond-true, cond-false, le-leb, lt-leb, le-ltb, leb-true, not_from_false, and_from, and_parts}
+use Rattle.model.specs.Histories.{by_put, was_spent, was_taken}
 use Rattle.model.specs.Queues.{Put, Spend, Take, Changes, look, distinct, errand_within, one_less}
 use Rattle.model.specs.Refusals.{told}
 use Rattle.model.specs.declared.errands.Errand.{Errand}
 use Rattle.model.specs.declared.refusals.Refusal.{Refusal}
 use Rattle.model.specs.declared.refusals.Refusal.TheVariants.{NotWaiting}
-use Rattle.list.specs.Held.{held, fits, Becomes, Inserts}
+use Rattle.list.specs.Held.{held, free_slots, fits, Becomes, Inserts, Removes, Replaces}
 use Rattle.list.specs.Order.{same_rank}
 use Rattle.list.specs.declared.ordered.OrderedList.{OrderedList}
-use Rattle.queue.specs.Lines.{OnlyLine, errands, line_meaning, place_of, first_number}
+use Rattle.queue.specs.Lines.{errands, first_number, free_after, line_meaning, numbered, place_of, with_last_unit}
 use Rattle.queue.specs.Ranks.{ranks}
 use Rattle.queue.specs.Slots.{with_units}
 use Rattle.queue.specs.declared.slots.Slot.{Slot}
 use Rattle.queue.proofs.After.{spent, without}
-use Rattle.queue.proofs.Lookups.{numbered, place_is, look_at, waits_somewhere, waits_nowhere, look_number, first_once}
-use Rattle.queue.proofs.Changing.{look_first, removed_once}
-use Rattle.queue.proofs.Meanings.{errands_removed, refused_waits, refused_full, refused_not, placed_changes, removed_changes, first_changes}
+use Rattle.queue.proofs.Lookups.{found_at, look_is_found, place_is, waits_somewhere, waits_nowhere, look_number, first_once}
+use Rattle.queue.proofs.Changing.{look_first}
+use Rattle.queue.proofs.Meanings.{refused_waits, refused_full, refused_not, placed_changes, removed_changes, first_changes}
 
 -- The first slot, if there is one.
-pub first_some : (ss : List Slot) (s : Slot) → Some s ≡ slice_get ss 0 → ss ≡ s ∷ drop 1 ss
+pub first_some : (ss : List Slot) (s : Slot) → slice_get ss 0 ≡ Some s → ss ≡ s ∷ drop 1 ss
 first_some [] s h = cc
 first_some (x ∷ ss) s h = let same : x ≡ s = cc in ap (λ y. y ∷ ss) same
 
--- The list writes no slot behind its entries.
-pub only_line : {R : _} (l m : OrderedList Slot R) (after : List Slot) → Becomes l after m → OnlyLine l m
-only_line l m after done k h = done.beyond k (omega (arith, h, ap length done.holds))
-
-pub only_inserted : {X : Type 0} {R : _} (l m : OrderedList Slot R) (s : Slot) (r : Result X Refusal) → Inserts ranks l s r m →
-    OnlyLine l m
-only_inserted l m s (Ok x) done = only_line l m _ done.1
-only_inserted l m s (Err why) done = λ k _. ap (λ n. drop k n.slots.now) done.2
+-- It is the one found by its number.
+first_found : (ss : List Slot) (s : Slot) → ss ≡ s ∷ drop 1 ss → find (numbered s.errand.number) ss ≡ Some s
+first_found ss s was = ap (find (numbered s.errand.number)) was ∙ cond-true _ _ _ (eq-eqb s.errand.number _ refl)
 
 -- Put
 pub put_waits : {R : _} (X : Type 0) (l : OrderedList Slot R) (e : Errand) (why : Refusal) → errand_within e ≡ true →
@@ -52,7 +49,7 @@ put_inserted l m s e (Ok x) done none is within once =
     let inside : errand_within s.errand ≡ true = ap errand_within is ∙ within in
     subst (λ k. Put (line_meaning l) k (Ok x) (line_meaning m)) is (
       refused_not (line_meaning l) s.errand inside absent (omega (arith, done.0, length-map (held l) (λ s. s.errand))),
-      placed_changes l m s inside absent once done.1,
+      placed_changes l m s _ inside absent once done.1,
     )
 put_inserted l m s e (Err why) done none is within once = (
   refused_full (line_meaning l) e within (waits_nowhere e.number (held l) none)
@@ -61,6 +58,11 @@ put_inserted l m s e (Err why) done none is within once = (
   ap line_meaning done.2,
 )
 
+pub free_put : {X : Type 0} {R : _} (l m : OrderedList Slot R) (s : Slot) (e : Errand) (r : Result X Refusal) →
+    Inserts ranks l s r m → free_slots m ≡ free_after (held l) (free_slots l) (by_put e r)
+free_put l m s e (Ok x) done = done.1.free
+free_put l m s e (Err why) done = ap free_slots done.2
+
 -- Each errand still waits once after a put.
 pub once_put : {X : Type 0} {R : _} (l m : OrderedList Slot R) (e : Errand) (r : Result X Refusal) →
     Put (line_meaning l) e r (line_meaning m) → distinct (errands (held l)) ≡ true → distinct (errands (held m)) ≡ true
@@ -68,30 +70,37 @@ once_put l m e (Ok x) put once = put.1.sound.each_once
 once_put l m e (Err why) put once = ap (λ k. distinct k.waiting) put.1 ∙ once
 
 -- Spend
--- A unit was spent: what the line means now, and which slots it holds.
+-- A unit was spent: what the line means now, which slots it holds, and which are free.
 pub record UnitSpent {R : _} (l : OrderedList Slot R) (n : ℕ) (m : OrderedList Slot R) : Type 0 where
   pub spends : Spend (line_meaning l) (Some n) (line_meaning m)
   pub slots : held m ≡ spent (held l)
+  pub free : free_slots m ≡ free_after (held l) (free_slots l) (was_spent n ∷ [])
 
-pub last_spent : {R : _} (l m : OrderedList Slot R) (s : Slot) (e : Errand) → Some s ≡ slice_get (held l) 0 → e ≡ s.errand →
-    e.units ≤ 1 → Becomes l (remove (held l) 0) m → distinct (errands (held l)) ≡ true → UnitSpent l e.number m
-last_spent l m s e at is last done once =
+pub last_spent : {R : _} (l m : OrderedList Slot R) (s : Slot) (e : Errand) → slice_get (held l) 0 ≡ Some s → e ≡ s.errand →
+    e.units ≤ 1 → Removes l 0 (slice_get (held l) 0) m → distinct (errands (held l)) ≡ true → UnitSpent l e.number m
+last_spent l m s e at is last removed once =
     let was = first_some (held l) s at in
     let first = ap errands was in
     let over : s.errand.units ≤ 1 = omega (arith, ap (λ k. k.units) is) in
-    record {
-      spends = subst (λ k. Spend (line_meaning l) (Some k.number) (line_meaning m)) (sym is) (
+    let done : Becomes l (remove (held l) 0) (s ∷ free_slots l) m = subst (λ o. Removes l 0 o m) at removed in
+    subst (λ k. UnitSpent l k.number m) (sym is)
+    (record {
+      spends = (
         ap first_number first,
         (
           s.errand,
           ap (λ es. look es s.errand.number) first ∙ look_first s.errand _,
           subst (λ o. Changes (line_meaning l) s.errand.number o (line_meaning m))
               (sym (cond-true _ _ _ (le-leb _ _ over)))
-              (removed_changes l m 0 s.errand (ap (λ es. slice_get es 0) first) once done),
+              (removed_changes l m 0 s.errand _ (ap (λ es. slice_get es 0) first) once done),
         ),
       );
       slots = done.holds ∙ ap (λ ss. remove ss 0) was ∙ sym (ap spent was ∙ cond-true _ _ _ (le-leb _ _ over));
-    }
+      free =
+          done.free
+          ∙ ap (λ o. cons_option o (free_slots l))
+          (sym (ap with_last_unit (first_found (held l) s was) ∙ cond-true _ _ _ (le-leb _ _ over)));
+    })
 
 -- A slot keeps its rank as its units fall, so the line takes the new slot in place of the old.
 keeps_rank : (s : Slot) (units : ℕ) → same_rank ranks s (with_units s units) ≡ true
@@ -99,12 +108,12 @@ keeps_rank s units =
     let same : ranks s s ≡ false = le-ltb _ _ (omega arith) in
     and_from _ _ (not_from_false _ same) (not_from_false _ same)
 
-pub written : {R : _} (l m : OrderedList Slot R) (s t : Slot) (units : ℕ) (took : Bool) → Some s ≡ slice_get (held l) 0 →
-    t ≡ with_units s units → took ≡ fits ranks (slice_get (held l) 0) t →
-    Becomes l (cond took (set (held l) 0 t) (held l)) m → Becomes l (set (held l) 0 (with_units s units)) m
-written l m s t units took at is fit done =
-    let yes : took ≡ true = fit ∙ ap (λ o. fits ranks o t) (sym at) ∙ ap (fits ranks (Some s)) is ∙ keeps_rank s units in
-    subst (λ ss. Becomes l ss m) (ap (λ b. cond b (set (held l) 0 t) (held l)) yes ∙ ap (set (held l) 0) is) done
+written : {R : _} (l m : OrderedList Slot R) (s t : Slot) (units : ℕ) (took : Bool) → slice_get (held l) 0 ≡ Some s →
+    t ≡ with_units s units → took ≡ fits ranks (slice_get (held l) 0) t → Replaces l 0 t took m →
+    Becomes l (set (held l) 0 (with_units s units)) (free_slots l) m
+written l m s t units took at is fit replaced =
+    let yes : took ≡ true = fit ∙ ap (λ o. fits ranks o t) at ∙ ap (fits ranks (Some s)) is ∙ keeps_rank s units in
+    subst (λ k. Replaces l 0 k true m) is (subst (λ b. Replaces l 0 t b m) yes replaced)
 
 one_less_is : (s : Slot) → 1 < s.errand.units → Some (with_units s (s.errand.units - 1)).errand ≡ one_less s.errand
 one_less_is s more =
@@ -119,29 +128,34 @@ less_within s more within =
     let less = s.errand.units - 1 in
     and_from _ _ (and_from _ _ (le-leb 1 less (omega arith)) (le-leb less 4096 (omega arith))) p.1
 
-pub unit_spent : {R : _} (l m : OrderedList Slot R) (s t : Slot) (e : Errand) (took : Bool) → Some s ≡ slice_get (held l) 0 →
+pub unit_spent : {R : _} (l m : OrderedList Slot R) (s t : Slot) (e : Errand) (took : Bool) → slice_get (held l) 0 ≡ Some s →
     e ≡ s.errand → 1 < e.units → t ≡ with_units s (e.units - 1) → took ≡ fits ranks (slice_get (held l) 0) t →
-    Becomes l (cond took (set (held l) 0 t) (held l)) m → distinct (errands (held l)) ≡ true → UnitSpent l e.number m
-unit_spent l m s t e took at is units new fit done once =
+    Replaces l 0 t took m → distinct (errands (held l)) ≡ true → UnitSpent l e.number m
+unit_spent l m s t e took at is units new fit replaced once =
     let was = first_some (held l) s at in
     let first = ap errands was in
     let f = first_once s.errand _ (sym (ap distinct first) ∙ once) in
     let less = s.errand.units - 1 in
     let more : 1 < s.errand.units = omega (arith, ap (λ k. k.units) is) in
-    let one = written l m s t less took at (new ∙ ap (λ k. with_units s (k.units - 1)) is) fit done in
-    let after = subst (λ ss. Becomes l ss m) (ap (λ ss. set ss 0 (with_units s less)) was) one in
-    record {
-      spends = subst (λ k. Spend (line_meaning l) (Some k.number) (line_meaning m)) (sym is) (
+    let one = written l m s t less took at (new ∙ ap (λ k. with_units s (k.units - 1)) is) fit replaced in
+    let done = subst (λ ss. Becomes l ss (free_slots l) m) (ap (λ ss. set ss 0 (with_units s less)) was) one in
+    subst (λ k. UnitSpent l k.number m) (sym is)
+    (record {
+      spends = (
         ap first_number first,
         (
           s.errand,
           ap (λ es. look es s.errand.number) first ∙ look_first s.errand _,
           subst (λ o. Changes (line_meaning l) s.errand.number o (line_meaning m)) (one_less_is s more)
-              (first_changes l m s (drop 1 (held l)) less was once (less_within s more f.within) after),
+              (first_changes l m s (drop 1 (held l)) _ less was once (less_within s more f.within) done),
         ),
       );
-      slots = after.holds ∙ sym (ap spent was ∙ cond-false _ _ _ (lt-leb _ _ more));
-    }
+      slots = done.holds ∙ sym (ap spent was ∙ cond-false _ _ _ (lt-leb _ _ more));
+      free =
+          done.free
+          ∙ ap (λ o. cons_option o (free_slots l))
+          (sym (ap with_last_unit (first_found (held l) s was) ∙ cond-false _ _ _ (lt-leb _ _ more)));
+    })
 
 -- Each errand still waits once after a spend.
 pub once_spent : {R : _} (l m : OrderedList Slot R) (n : ℕ) → UnitSpent l n m → distinct (errands (held m)) ≡ true
@@ -156,22 +170,33 @@ without_place n (s ∷ ss) =
     as (λ b. remove (s ∷ ss) (cond (not b) (1 + position_or_len (numbered n) ss) 0) ≡ cond b ss (s ∷ without n ss))
     [ true ↦ refl | false ↦ rw next (ap (λ xs. s ∷ xs) (without_place n ss)) ]
 
-pub without_is : (n : ℕ) (ss : List Slot) (i : ℕ) → place_of n ss ≡ Some i → remove ss i ≡ without n ss
-without_is n ss i at = ap (remove ss) (sym (place_is n ss i at)) ∙ without_place n ss
+-- An errand was taken: what the line means now, which slots it holds, and which are free.
+pub record ErrandTaken {R : _} (l : OrderedList Slot R) (n units : ℕ) (m : OrderedList Slot R) : Type 0 where
+  pub takes : Take (line_meaning l) n (Ok units) (line_meaning m)
+  pub slots : held m ≡ without n (held l)
+  pub free : free_slots m ≡ free_after (held l) (free_slots l) (was_taken n ∷ [])
 
-pub take_found : {R : _} (l m : OrderedList Slot R) (n i : ℕ) (s : Slot) (e : Errand) → place_of n (held l) ≡ Some i →
-    slice_get (held l) i ≡ Some s → e ≡ s.errand → Becomes l (remove (held l) i) m → distinct (errands (held l)) ≡ true →
-    Take (line_meaning l) n (Ok e.units) (line_meaning m)
-take_found l m n i s e place at is done once =
-    let found : look (errands (held l)) n ≡ Some s.errand = look_at n (held l) i place ∙ ap (option_map (λ x. x.errand)) at in
-    subst (λ k. Take (line_meaning l) n (Ok k.units) (line_meaning m)) (sym is) (
-      s.errand,
-      found,
-      refl,
-      subst (λ k. Changes (line_meaning l) k None (line_meaning m)) (look_number (errands (held l)) n s.errand found)
-          (removed_changes l m i s.errand (slice_get-map (λ x. x.errand) (held l) i ∙ ap (option_map (λ x. x.errand)) at)
-          once done),
-    )
+pub errand_taken : {R : _} (l m : OrderedList Slot R) (n i : ℕ) (s : Slot) (e : Errand) → place_of n (held l) ≡ Some i →
+    s ≡ get_or (held l) i s → e ≡ s.errand → Removes l i (slice_get (held l) i) m → distinct (errands (held l)) ≡ true →
+    ErrandTaken l n e.units m
+errand_taken l m n i s e place read is removed once =
+    let within = (position-Some (numbered n) (held l) i s place).0 in
+    let at : slice_get (held l) i ≡ Some s = slice_get_read (held l) (length (held l)) i s refl within read in
+    let done : Becomes l (remove (held l) i) (s ∷ free_slots l) m = subst (λ o. Removes l i o m) at removed in
+    let found : find (numbered n) (held l) ≡ Some s = found_at n (held l) i place ∙ at in
+    let waits : look (errands (held l)) n ≡ Some s.errand = look_is_found n (held l) ∙ ap (option_map (λ x. x.errand)) found in
+    record {
+      takes = subst (λ k. Take (line_meaning l) n (Ok k.units) (line_meaning m)) (sym is) (
+        s.errand,
+        waits,
+        refl,
+        subst (λ k. Changes (line_meaning l) k None (line_meaning m)) (look_number (errands (held l)) n s.errand waits)
+            (removed_changes l m i s.errand _ (slice_get-map (λ x. x.errand) (held l) i ∙ ap (option_map (λ x. x.errand)) at)
+            once done),
+      );
+      slots = done.holds ∙ ap (remove (held l)) (sym (place_is n (held l) i place)) ∙ without_place n (held l);
+      free = done.free ∙ ap (λ o. cons_option o (free_slots l)) (sym found);
+    }
 
 -- Where the number waits nowhere, nothing changes.
 pub take_missing : {R : _} (l : OrderedList Slot R) (n : ℕ) (r : Result ℕ Refusal) → place_of n (held l) ≡ None →
@@ -179,8 +204,6 @@ pub take_missing : {R : _} (l : OrderedList Slot R) (n : ℕ) (r : Result ℕ Re
 take_missing l n r none is =
     subst (λ k. Take (line_meaning l) n k (line_meaning l)) (sym is) (waits_nowhere n (held l) (ap is_some none), refl, refl)
 
--- Each errand still waits once after one was dropped.
-pub once_removed : {R : _} (l m : OrderedList Slot R) (i : ℕ) → Becomes l (remove (held l) i) m →
-    distinct (errands (held l)) ≡ true → distinct (errands (held m)) ≡ true
-once_removed l m i done once =
-    ap (λ ss. distinct (errands ss)) done.holds ∙ ap distinct (errands_removed (held l) i) ∙ removed_once (errands (held l)) i once
+-- Each errand still waits once after one was taken.
+pub once_taken : {R : _} (l m : OrderedList Slot R) (n units : ℕ) → ErrandTaken l n units m → distinct (errands (held m)) ≡ true
+once_taken l m n units done = done.takes.3.sound.each_once

@@ -5,5 +5,6 @@ mod Calling
 mod Changing
 pub mod Earliest
 mod Joining
+pub mod Leaving
 mod Lookups
 mod Meanings

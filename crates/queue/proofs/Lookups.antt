@@ -1,12 +1,13 @@
 -- Looking numbers up among the errands that wait.
-use Rattle.std.proofs.Common.{◌≡◌, ℕ, suc, ◌+◌, Bool, true, false, cond, not, eqb, nat_lt, List, [], ◌∷◌, length, is_some, Some, None, Option, sym, refl, ap, ◌∙◌, ⊎_elim, arith}
-use Rattle.std.specs.List.{slice_get, position_from, position_or_len}
+use Rattle.std.proofs.Common.{◌≡◌, ℕ, ◌+◌, true, false, cond, eqb, nat_lt, List, [], ◌∷◌, length, is_some, Some, None, Option, sym, refl, ap, ◌∙◌, ⊎_elim}
+use Rattle.std.specs.List.{find, slice_get, position_from, position_or_len}
 use Rattle.std.specs.Option.{option_map}
 use Rattle.std.proofs.lemmas.Iterator.Adapters.{position_from-zero}
+use Rattle.std.proofs.lemmas.List.Folds.{find_at}
 use Rattle.std.proofs.lemmas.Bool.{and_from, and_parts, not-true, not_from_false, cond-false, cond-true, cond_both, eqb-true, cases_Bool}
 use Rattle.model.specs.Queues.{look, distinct, errand_within}
 use Rattle.model.specs.declared.errands.Errand.{Errand}
-use Rattle.queue.specs.Lines.{errands, place_of}
+use Rattle.queue.specs.Lines.{errands, numbered, place_of}
 use Rattle.queue.specs.declared.slots.Slot.{Slot}
 
 pub none_from_test : {X : Type 0} (o : Option X) → is_some o ≡ false → o ≡ None
@@ -22,9 +23,6 @@ look_number (x ∷ es) n e h =
     (λ f. look_number es n e (sym (cond-false _ (Some x) (look es n) f) ∙ h)) (cases_Bool (eqb x.number n))
 
 -- A number has a place among the slots exactly when it waits.
-abbrev pub numbered : ℕ → Slot → Bool
-numbered n s = eqb s.errand.number n
-
 waits_behind : (n i : ℕ) (ss : List Slot) → is_some (position_from (numbered n) i ss) ≡ is_some (look (errands ss) n)
 waits_behind n i [] = refl
 waits_behind n i (s ∷ ss) =
@@ -39,26 +37,21 @@ waits_somewhere n ss = ap is_some (position_from-zero (numbered n) ss) ∙ waits
 pub waits_nowhere : (n : ℕ) (ss : List Slot) → is_some (place_of n ss) ≡ false → look (errands ss) n ≡ None
 waits_nowhere n ss h = none_from_test _ (sym (waits_somewhere n ss) ∙ h)
 
--- The errand of a number is the one at its place.
+-- The slot of a number is the one at its place.
 pub place_is : (n : ℕ) (ss : List Slot) (i : ℕ) → place_of n ss ≡ Some i → position_or_len (numbered n) ss ≡ i
 place_is n ss i =
     let first = position_or_len (numbered n) ss in
     cond_both (nat_lt first (length ss)) (Some first) None (λ o. o ≡ Some i → first ≡ i) (λ _ h. cc) (λ _ h. cc)
 
-look_first_place : (n : ℕ) (ss : List Slot) →
-    look (errands ss) n ≡ option_map (λ s. s.errand) (slice_get ss (position_or_len (numbered n) ss))
-look_first_place n [] = refl
-look_first_place n (s ∷ ss) =
-    let next : 1 + position_or_len (numbered n) ss ≡ suc (position_or_len (numbered n) ss) = omega arith in
-    elim (eqb s.errand.number n)
-    as (λ b.
-    cond b (Some s.errand) (look (errands ss) n)
-    ≡ option_map (λ x. x.errand) (slice_get (s ∷ ss) (cond (not b) (1 + position_or_len (numbered n) ss) 0)))
-    [ true ↦ refl | false ↦ rw next (look_first_place n ss) ]
+pub found_at : (n : ℕ) (ss : List Slot) (i : ℕ) → place_of n ss ≡ Some i → find (numbered n) ss ≡ slice_get ss i
+found_at n ss i at = find_at (numbered n) ss ∙ ap (slice_get ss) (place_is n ss i at)
 
-pub look_at : (n : ℕ) (ss : List Slot) (i : ℕ) → place_of n ss ≡ Some i →
-    look (errands ss) n ≡ option_map (λ s. s.errand) (slice_get ss i)
-look_at n ss i at = look_first_place n ss ∙ ap (λ k. option_map (λ s. s.errand) (slice_get ss k)) (place_is n ss i at)
+pub look_is_found : (n : ℕ) (ss : List Slot) → look (errands ss) n ≡ option_map (λ s. s.errand) (find (numbered n) ss)
+look_is_found n [] = refl
+look_is_found n (s ∷ ss) =
+    elim (eqb s.errand.number n)
+    as (λ b. cond b (Some s.errand) (look (errands ss) n) ≡ option_map (λ x. x.errand) (cond b (Some s) (find (numbered n) ss)))
+    [ true ↦ refl | false ↦ look_is_found n ss ]
 
 -- What the fact that each errand is within its limits and waits once says of the first.
 pub record FirstOnce (e : Errand) (es : List Errand) : Type 0 where

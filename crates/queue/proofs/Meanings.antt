@@ -30,10 +30,10 @@ refused_not m e h k room =
     cond-false _ _ _ (not_from_true _ h) ∙ cond-false _ _ _ (ap is_some k) ∙ cond-false _ _ _ (lt-leb _ _ room)
 
 -- A slot was lined up.
-pub placed_changes : {R : _} (l m : OrderedList Slot R) (s : Slot) → errand_within s.errand ≡ true →
+pub placed_changes : {R : _} (l m : OrderedList Slot R) (s : Slot) (rest : List Slot) → errand_within s.errand ≡ true →
     look (errands (held l)) s.errand.number ≡ None → distinct (errands (held l)) ≡ true →
-    Becomes l (placed ranks s (held l)) m → Changes (line_meaning l) s.errand.number (Some s.errand) (line_meaning m)
-placed_changes l m s within none once done =
+    Becomes l (placed ranks s (held l)) rest m → Changes (line_meaning l) s.errand.number (Some s.errand) (line_meaning m)
+placed_changes l m s rest within none once done =
     let after = ap errands done.holds in
     record {
       here = ap (λ es. look es s.errand.number) after ∙ look_placed_same ranks s (held l) none;
@@ -42,17 +42,17 @@ placed_changes l m s within none once done =
       sound = line_sound m (ap distinct after ∙ placed_once ranks s (held l) within none once);
     }
 
-pub errands_removed : (xs : List Slot) (i : ℕ) → errands (remove xs i) ≡ remove (errands xs) i
+errands_removed : (xs : List Slot) (i : ℕ) → errands (remove xs i) ≡ remove (errands xs) i
 errands_removed [] zero = refl
 errands_removed [] (suc i) = refl
 errands_removed (x ∷ xs) zero = refl
 errands_removed (x ∷ xs) (suc i) = ap (λ es. x.errand ∷ es) (errands_removed xs i)
 
 -- A slot was dropped.
-pub removed_changes : {R : _} (l m : OrderedList Slot R) (i : ℕ) (e : Errand) → slice_get (errands (held l)) i ≡ Some e →
-    distinct (errands (held l)) ≡ true → Becomes l (remove (held l) i) m →
+pub removed_changes : {R : _} (l m : OrderedList Slot R) (i : ℕ) (e : Errand) (rest : List Slot) → slice_get (errands (held l)) i ≡ Some e →
+    distinct (errands (held l)) ≡ true → Becomes l (remove (held l) i) rest m →
     Changes (line_meaning l) e.number None (line_meaning m)
-removed_changes l m i e at once done =
+removed_changes l m i e rest at once done =
     let after : errands (held m) ≡ remove (errands (held l)) i = ap errands done.holds ∙ errands_removed (held l) i in
     record {
       here = ap (λ es. look es e.number) after ∙ look_removed_same (errands (held l)) i e at once;
@@ -62,11 +62,11 @@ removed_changes l m i e at once done =
     }
 
 -- The first slot's units changed.
-pub first_changes : {R : _} (l m : OrderedList Slot R) (s : Slot) (ss : List Slot) (units : ℕ) → held l ≡ s ∷ ss →
+pub first_changes : {R : _} (l m : OrderedList Slot R) (s : Slot) (ss rest : List Slot) (units : ℕ) → held l ≡ s ∷ ss →
     distinct (errands (held l)) ≡ true → errand_within (with_units s units).errand ≡ true →
-    Becomes l (with_units s units ∷ ss) m →
+    Becomes l (with_units s units ∷ ss) rest m →
     Changes (line_meaning l) s.errand.number (Some (with_units s units).errand) (line_meaning m)
-first_changes l m s ss units was once within done =
+first_changes l m s ss rest units was once within done =
     let after = ap errands done.holds in
     let before = ap errands was in
     let e = (with_units s units).errand in

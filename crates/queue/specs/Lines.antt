@@ -1,10 +1,11 @@
--- A line is the ordered list of a queue's slots: what it means, and what it keeps.
-use Rattle.std.specs.Prelude.{◌≡◌, ℕ, ◌≤◌, true, cond, List, [], ◌∷◌, length, drop, map, position, is_some, Some, None, Ok, Err, Option, Result, ◌==◌, refl}
+-- A line is the ordered list of a queue's slots: what it means, and what its free slots hold after each call.
+use Rattle.std.specs.Prelude.{◌≡◌, ℕ, Bool, true, cond, List, [], ◌∷◌, drop, map, position, is_some, Some, None, Option, ◌==◌, nat_le, refl}
+use Rattle.std.specs.List.{cons_option, find}
 use Rattle.std.proofs.Common.{arith, ap, length-take, eq-eqb}
 use Rattle.std.proofs.lemmas.List.{length-map}
+use Rattle.model.specs.Histories.{Event, History, was_put, was_spent, was_taken}
 use Rattle.model.specs.Queues.{Meaning, Sound, look, distinct, names_right}
 use Rattle.model.specs.declared.errands.Errand.{Errand}
-use Rattle.model.specs.declared.refusals.Refusal.{Refusal}
 use Rattle.list.specs.Held.{held, places}
 use Rattle.list.specs.declared.ordered.OrderedList.{OrderedList}
 use Rattle.queue.specs.declared.slots.Slot.{Slot}
@@ -24,22 +25,30 @@ abbrev pub line_meaning : {R : _} → OrderedList Slot R → Meaning
 line_meaning l =
     record { waiting = errands (held l); named = first_number (errands (held l)); places = places l }
 
+-- The slot holds the errand of a number.
+abbrev pub numbered : ℕ → Slot → Bool
+numbered n s = s.errand.number == n
+
 -- The place of the errand of a number, if it waits.
 abbrev pub place_of : ℕ → List Slot → Option ℕ
-place_of n = position (λ s. s.errand.number == n)
+place_of n = position (numbered n)
 
--- What is refused leaves the line, and every slot of it, as it was; so does a spend that finds nothing.
-abbrev pub KeptIfRefused : {X : Type 0} {R : _} → OrderedList Slot R → Result X Refusal → OrderedList Slot R → Type 0
-KeptIfRefused l (Ok x) m = Unit {0}
-KeptIfRefused l (Err why) m = m ≡ l
+-- A slot whose errand has its last unit, if there is such a slot.
+abbrev pub with_last_unit : Option Slot → Option Slot
+with_last_unit None = None
+with_last_unit (Some s) = cond (nat_le s.errand.units 1) (Some s) None
 
-abbrev pub KeptIfNone : {R : _} → OrderedList Slot R → Option ℕ → OrderedList Slot R → Type 0
-KeptIfNone l None m = m ≡ l
-KeptIfNone l (Some n) m = Unit {0}
+-- The free slots after an event, from those that held errands before it, the line, and those that were free. A put takes the first
+-- free slot. The slot of an errand that is taken, or whose last unit is spent, is the first free slot from then on, as it was.
+abbrev pub freed : List Slot → List Slot → Event → List Slot
+freed line free (was_put e) = drop 1 free
+freed line free (was_spent n) = cons_option (with_last_unit (find (numbered n) line)) free
+freed line free (was_taken n) = cons_option (find (numbered n) line) free
 
--- No slot behind the line was written.
-abbrev pub OnlyLine : {R : _} → OrderedList Slot R → OrderedList Slot R → Type 0
-OnlyLine l m = (k : ℕ) → length (held m) ≤ k → drop k m.slots.now ≡ drop k l.slots.now
+-- The free slots after a call, from what it added to the history: one event, or none, where they stay as they are.
+abbrev pub free_after : List Slot → List Slot → History → List Slot
+free_after line free [] = free
+free_after line free (x ∷ xs) = freed line free x
 
 -- What a line means is sound if no number is in it twice.
 first_named : (es : List Errand) → names_right es (first_number es) ≡ true

@@ -1,10 +1,11 @@
-ghost use Rattle.std.specs.Prelude.{◌≡◌, true, min, [], length, take};
+ghost use Rattle.std.specs.Prelude.{◌≡◌, true, min, [], length, ◌++◌};
 ghost use Rattle.model.specs.Histories.{GoesOn, by_put, by_spend, by_take};
 ghost use Rattle.model.specs.Queues.{distinct, Put, Spend, Take};
-ghost use Rattle.list.specs.Held.{held, places};
+ghost use Rattle.list.specs.Held.{held, free_slots, places};
 ghost use Rattle.queue.specs.Arrivals.{best_rated};
-ghost use Rattle.queue.specs.Lines.{errands, line_meaning, line_sound, first_number, place_of, KeptIfNone, KeptIfRefused, OnlyLine};
+ghost use Rattle.queue.specs.Lines.{errands, line_meaning, line_sound, first_number, free_after, place_of};
 ghost use Rattle.queue.specs.Orders.{Arises, Arose, line_chooses};
+ghost use Rattle.queue.specs.Untouched.{Left};
 
 use super::queues::Queue;
 use super::rules::{Alike, Rule, WorthForUnits};
@@ -18,6 +19,8 @@ use std::marker::PhantomData;
 #[derive(Drop)]
 pub struct ErrandQueue<'a, R: Rule> {
     line: OrderedList<'a, Slot>,
+    // The slots past its places. The queue keeps them for its contracts: no call writes one of them.
+    beyond: &'a mut [Slot],
     rule: PhantomData<R>,
     ghost once: { distinct (errands (held line)) ≡ true },
     pub ghost arose: { Arose R.worth R.units (held line) },
@@ -32,15 +35,6 @@ pub type ByWorth<'a> = ErrandQueue<'a, WorthForUnits>;
 // A queue has at most so many places.
 const MOST_PLACES: usize = 1024;
 
-// The slots that a queue uses: the first of those handed to it.
-#[tactic(auto, using(std::proofs::lemmas::List::take_min))]
-fn own_slots(slots: &mut [Slot]) -> &mut [Slot]
-    ensures { result.now ≡ take 1024 slots.old }
-{
-    let most = MOST_PLACES.min(slots.len());
-    &mut slots[..most]
-}
-
 // The place of the errand of a number, if it waits.
 fn place_of(slots: &[Slot], number: u32) -> Option<usize>
     ensures { result ≡ place_of number slots.now }
@@ -54,10 +48,13 @@ impl<'a, R: Rule> ErrandQueue<'a, R> {
         ensures empty { held result.line ≡ [] }
         ensures history { Arises R.worth R.units [] (held result.line) }
         ensures size { places result.line ≡ min (length slots.old) 1024 }
-        ensures slots { result.line.slots.now ≡ take 1024 slots.old }
+        ensures slots { result.line.slots.now ++ result.beyond.now ≡ slots.old }
     {
+        let most = MOST_PLACES.min(slots.len());
+        let (own, beyond) = slots.split_at_mut(most);
         ErrandQueue {
-            line: OrderedList::new(own_slots(slots)),
+            line: OrderedList::new(own),
+            beyond,
             rule: PhantomData,
         }
     }
@@ -74,11 +71,14 @@ impl<'a, R: Rule> Queue for ErrandQueue<'a, R> {
 
     ghost chooses = { λ past q arose. line_chooses R.worth R.units past q.line arose };
 
+    ghost untouched = { λ q r. (r.line ≡ q.line) × (r.beyond ≡ q.beyond) };
+
     fn put(&mut self, errand: Errand) -> Result<(), Refusal>
         ensures means { Put (line_meaning self.old.line) errand result (line_meaning self.new.line) }
         ensures history { GoesOn (Arises R.worth R.units) (held self.old.line) (by_put errand result) (held self.new.line) }
-        ensures kept { KeptIfRefused self.old.line result self.new.line }
-        ensures rest { OnlyLine self.old.line self.new.line }
+        ensures untouched { by_put errand result ≡ [] → (self.new.line ≡ self.old.line) × (self.new.beyond ≡ self.old.beyond) }
+        ensures rest { free_slots self.new.line ≡ free_after (held self.old.line) (free_slots self.old.line) (by_put errand result) }
+        ensures beyond { self.new.beyond ≡ self.old.beyond }
     {
         let slot = Slot::rated::<R>(errand)?;
         if place_of(self.line.entries(), errand.number).is_some() {
@@ -97,15 +97,16 @@ impl<'a, R: Rule> Queue for ErrandQueue<'a, R> {
     fn spend(&mut self) -> Option<u32>
         ensures means { Spend (line_meaning self.old.line) result (line_meaning self.new.line) }
         ensures history { GoesOn (Arises R.worth R.units) (held self.old.line) (by_spend result) (held self.new.line) }
-        ensures kept { KeptIfNone self.old.line result self.new.line }
-        ensures rest { OnlyLine self.old.line self.new.line }
+        ensures untouched { by_spend result ≡ [] → (self.new.line ≡ self.old.line) × (self.new.beyond ≡ self.old.beyond) }
+        ensures rest { free_slots self.new.line ≡ free_after (held self.old.line) (free_slots self.old.line) (by_spend result) }
+        ensures beyond { self.new.beyond ≡ self.old.beyond }
     {
-        let slot = self.line.get(0)?;
+        let slot = *self.line.get(0)?;
         let errand = slot.errand();
         if errand.units <= 1 {
-            let _ = self.line.remove(0);
+            self.line.remove(0);
         } else {
-            let _ = self.line.replace(0, slot.with_units(errand.units - 1));
+            self.line.replace(0, slot.with_units(errand.units - 1));
         }
         Some(errand.number)
     }
@@ -113,11 +114,19 @@ impl<'a, R: Rule> Queue for ErrandQueue<'a, R> {
     fn take(&mut self, number: u32) -> Result<u32, Refusal>
         ensures means { Take (line_meaning self.old.line) number result (line_meaning self.new.line) }
         ensures history { GoesOn (Arises R.worth R.units) (held self.old.line) (by_take number result) (held self.new.line) }
-        ensures kept { KeptIfRefused self.old.line result self.new.line }
-        ensures rest { OnlyLine self.old.line self.new.line }
+        ensures untouched { by_take number result ≡ [] → (self.new.line ≡ self.old.line) × (self.new.beyond ≡ self.old.beyond) }
+        ensures rest { free_slots self.new.line ≡ free_after (held self.old.line) (free_slots self.old.line) (by_take number result) }
+        ensures beyond { self.new.beyond ≡ self.old.beyond }
     {
         let place = place_of(self.line.entries(), number).ok_or(Refusal::NotWaiting)?;
-        let slot = self.line.remove(place).ok_or(Refusal::NotWaiting)?;
-        Ok(slot.errand().units)
+        let units = self.line.entries()[place].errand().units;
+        self.line.remove(place);
+        Ok(units)
     }
 }
+
+// After any number of refused calls and of spends that find nothing, one after the other, the line of a queue and every slot
+// handed to it are as they were.
+pub fn left_as_it_was<R: Rule>()
+    ensures { (q r : ErrandQueue R R.Rule) → Left ⟦<ErrandQueue<'static, R> as Queue>⟧.untouched q r → (r.line ≡ q.line) × (r.beyond ≡ q.beyond) }
+{}

@@ -7,7 +7,7 @@ mod ratings;
 mod rules;
 mod slots;
 
-pub use errand_queue::{ByWorth, ErrandQueue, FirstCome};
+pub use errand_queue::{ByWorth, ErrandQueue, FirstCome, left_as_it_was};
 pub use queues::Queue;
 pub use rules::{Alike, Rule, WorthForUnits, best_worth_is_best, rules_as_named};
 pub use slots::Slot;

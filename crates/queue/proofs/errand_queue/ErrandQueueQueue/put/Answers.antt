@@ -4,7 +4,7 @@ use Rattle.model.specs.declared.refusals.Refusal.TheVariants.{AlreadyWaiting}
 use Rattle.list.specs.Held.{held}
 use Rattle.queue.specs.Lines.{place_of}
 use Rattle.queue.proofs.Arising.{arises_put, still_arose}
-use Rattle.queue.proofs.Calling.{only_inserted, put_waits, put_inserted, once_put}
+use Rattle.queue.proofs.Calling.{free_put, once_put, put_inserted, put_waits}
 use Rattle.queue.proofs.errand_queue.ErrandQueueQueue.put.Goals as goal
 
 pub returns-then-is_some-clause-means : goal.returns-then-is_some-clause-means
@@ -45,4 +45,5 @@ returns-clause-history g c =
     c.in_ok-slot.ensures.1 c.insert.ensures
 
 pub returns-clause-rest : goal.returns-clause-rest
-returns-clause-rest g c = only_inserted c.args.self.now.line c.insert.new.self c.in_ok-slot.slot c.insert.result c.insert.ensures
+returns-clause-rest g c =
+    free_put c.args.self.now.line c.insert.new.self c.in_ok-slot.slot c.args.errand c.insert.result c.insert.ensures

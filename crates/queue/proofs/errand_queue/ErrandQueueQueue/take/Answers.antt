@@ -1,36 +1,32 @@
-use Rattle.std.proofs.Common.{◌≡◌, [], ◌∷◌, Some, None, Err, refl, ◌∙◌, rules}
-use Rattle.std.specs.List.{slice_get}
+use Rattle.std.proofs.Common.{◌≡◌, [], ◌∷◌, get_or, Some, None, Err, ap, ◌∙◌, rules}
 use Rattle.model.specs.Histories.{was_taken}
 use Rattle.model.specs.declared.refusals.Refusal.TheVariants.{NotWaiting}
 use Rattle.list.specs.Held.{held}
 use Rattle.queue.specs.Lines.{place_of}
 use Rattle.queue.proofs.Arising.{arises_take, still_arose}
-use Rattle.queue.proofs.Calling.{only_line, take_found, take_missing, without_is, once_removed}
+use Rattle.queue.proofs.Calling.{errand_taken, once_taken, take_missing}
 use Rattle.queue.proofs.errand_queue.ErrandQueueQueue.take.Goals as goal
 
-pub returns-in_err-place : goal.returns-in_err-place
-returns-in_err-place g c =
-    let q = c.args.self.now in
+pub returns-in_err-place-clause-means : goal.returns-in_err-place-clause-means
+returns-in_err-place-clause-means g c =
+    let l = c.args.self.now.line in
     let refused : c.from_residual.result ≡ Err NotWaiting = search rules in
-    let none : place_of c.args.number (held q.line) ≡ None = cc (c.in_err-place.ensures.ok_part) in
-    record {
-      means = take_missing q.line c.args.number c.from_residual.result none refused;
-      history = search rules;
-      kept = search rules;
-      rest = λ k _. refl;
-    }
+    let none : place_of c.args.number (held l) ≡ None = cc (c.in_err-place.ensures.ok_part) in
+    take_missing l c.args.number c.from_residual.result none refused
 
 pub invariant_of-self : goal.invariant_of-self
 invariant_of-self g c =
     let q = c.args.self.now in
     let m = c.remove.new.self in
     let n = c.args.number in
-    let place : place_of n (held q.line) ≡ Some c.in_ok-place.place = cc (c.in_ok-place.ensures.ok_part) in
-    let goes_on =
-    arises_take g.R.Rule.worth g.R.Rule.units q.line m n q.once
-    (c.remove.ensures.becomes.holds ∙ without_is n (held q.line) c.in_ok-place.place place) in
+    let i = c.in_ok-place.place in
+    let s = c.index-entries-place.result in
+    let place : place_of n (held q.line) ≡ Some i = cc (c.in_ok-place.ensures.ok_part) in
+    let read = c.index-entries-place.is ∙ ap (λ ss. get_or ss i s) c.entries-2.ensures in
+    let done = errand_taken q.line m n i s c.errand-units.result place read c.errand-units.ensures c.remove.ensures.becomes q.once in
+    let goes_on = arises_take g.R.Rule.worth g.R.Rule.units q.line m n q.once done.slots in
     record {
-      once = once_removed q.line m c.in_ok-place.place c.remove.ensures.becomes q.once;
+      once = once_taken q.line m n c.errand-units.result.units done;
       arose = still_arose g.R.Rule.worth g.R.Rule.units (held q.line) (held m) (was_taken n ∷ []) goes_on q.arose;
     }
 
@@ -39,15 +35,15 @@ returns g c =
     let q = c.args.self.now in
     let m = c.remove.new.self in
     let n = c.args.number in
-    let place : place_of n (held q.line) ≡ Some c.in_ok-place.place = cc (c.in_ok-place.ensures.ok_part) in
-    let at : slice_get (held q.line) c.in_ok-place.place ≡ Some c.in_ok-slot.slot = cc (c.in_ok-slot.ensures.ok_part) in
+    let i = c.in_ok-place.place in
+    let s = c.index-entries-place.result in
+    let place : place_of n (held q.line) ≡ Some i = cc (c.in_ok-place.ensures.ok_part) in
+    let read = c.index-entries-place.is ∙ ap (λ ss. get_or ss i s) c.entries-2.ensures in
+    let done = errand_taken q.line m n i s c.errand-units.result place read c.errand-units.ensures c.remove.ensures.becomes q.once in
     record {
-      means =
-          take_found q.line m n c.in_ok-place.place c.in_ok-slot.slot c.errand.result place at c.errand.ensures
-          c.remove.ensures.becomes q.once;
-      history =
-          arises_take g.R.Rule.worth g.R.Rule.units q.line m n q.once
-          (c.remove.ensures.becomes.holds ∙ without_is n (held q.line) c.in_ok-place.place place);
-      kept = tt;
-      rest = only_line q.line m _ c.remove.ensures.becomes;
+      means = done.takes;
+      history = arises_take g.R.Rule.worth g.R.Rule.units q.line m n q.once done.slots;
+      untouched = λ added. cc;
+      rest = done.free;
+      beyond = search rules;
     }
