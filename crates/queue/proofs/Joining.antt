@@ -101,12 +101,12 @@ each_joining turn keeps line (s ∷ came) h =
     refl
 
 -- Slots of other numbers stay.
-untouched : (turn : Slot → Option Slot) (n : ℕ) → ((s : Slot) → (s.errand.number ≡ n → ⊥) → turn s ≡ Some s) →
+others_stay : (turn : Slot → Option Slot) (n : ℕ) → ((s : Slot) → (s.errand.number ≡ n → ⊥) → turn s ≡ Some s) →
     (ss : List Slot) → look (errands ss) n ≡ None → filter_map turn ss ≡ ss
-untouched turn n others [] none = refl
-untouched turn n others (s ∷ ss) none =
+others_stay turn n others [] none = refl
+others_stay turn n others (s ∷ ss) none =
     ap (λ o. cons_option o (filter_map turn ss)) (others s (none_apart s.errand (errands ss) n none))
-    ∙ ap (λ ys. s ∷ ys) (untouched turn n others ss (none_behind s.errand (errands ss) n none))
+    ∙ ap (λ ys. s ∷ ys) (others_stay turn n others ss (none_behind s.errand (errands ss) n none))
 
 gone_others : (n : ℕ) (s : Slot) → (s.errand.number ≡ n → ⊥) → gone_slot n s ≡ Some s
 gone_others n s apart = cond-false _ _ _ (ne_eqb _ _ apart)
@@ -139,7 +139,7 @@ without_is_gone n (s ∷ ss) once =
     as (λ b. eqb s.errand.number n ≡ b →
     cond b ss (s ∷ without n ss) ≡ cons_option (cond b None (Some s)) (filter_map (gone_slot n) ss)) [
       | true ↦ λ e.
-          sym (untouched (gone_slot n) n (gone_others n) ss (ap (look (errands ss)) (sym (eqb-true _ _ e)) ∙ f.alone))
+          sym (others_stay (gone_slot n) n (gone_others n) ss (ap (look (errands ss)) (sym (eqb-true _ _ e)) ∙ f.alone))
       | false ↦ λ _. ap (λ ys. s ∷ ys) (without_is_gone n ss f.rest)
     ])
     refl
@@ -150,7 +150,7 @@ spent_is_worked n [] named once = cc
 spent_is_worked n (s ∷ ss) named once =
     let f = first_once s.errand (errands ss) once in
     let same : s.errand.number ≡ n = cc in
-    let rest = untouched (worked_slot n) n (worked_others n) ss (ap (look (errands ss)) (sym same) ∙ f.alone) in
+    let rest = others_stay (worked_slot n) n (worked_others n) ss (ap (look (errands ss)) (sym same) ∙ f.alone) in
     let less = with_units s (s.errand.units - 1) in
     (elim (leb s.errand.units 1)
     as (λ b. cond b ss (less ∷ ss) ≡ cons_option (cond b None (Some less)) ss) [ true ↦ refl | false ↦ refl ])

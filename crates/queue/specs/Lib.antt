@@ -5,3 +5,4 @@ pub mod Orders
 pub mod Ranks
 pub mod Ratings
 pub mod Slots
+pub mod Untouched

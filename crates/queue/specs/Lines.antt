@@ -1,10 +1,9 @@
 -- A line is the ordered list of a queue's slots: what it means, and what it keeps.
-use Rattle.std.specs.Prelude.{◌≡◌, ℕ, ◌≤◌, true, cond, List, [], ◌∷◌, length, drop, map, position, is_some, Some, None, Ok, Err, Option, Result, ◌==◌, refl}
+use Rattle.std.specs.Prelude.{◌≡◌, ℕ, ◌≤◌, true, cond, List, [], ◌∷◌, length, drop, map, position, is_some, Some, None, Option, ◌==◌, refl}
 use Rattle.std.proofs.Common.{arith, ap, length-take, eq-eqb}
 use Rattle.std.proofs.lemmas.List.{length-map}
 use Rattle.model.specs.Queues.{Meaning, Sound, look, distinct, names_right}
 use Rattle.model.specs.declared.errands.Errand.{Errand}
-use Rattle.model.specs.declared.refusals.Refusal.{Refusal}
 use Rattle.list.specs.Held.{held, places}
 use Rattle.list.specs.declared.ordered.OrderedList.{OrderedList}
 use Rattle.queue.specs.declared.slots.Slot.{Slot}
@@ -27,15 +26,6 @@ line_meaning l =
 -- The place of the errand of a number, if it waits.
 abbrev pub place_of : ℕ → List Slot → Option ℕ
 place_of n = position (λ s. s.errand.number == n)
-
--- What is refused leaves the line, and every slot of it, as it was; so does a spend that finds nothing.
-abbrev pub KeptIfRefused : {X : Type 0} {R : _} → OrderedList Slot R → Result X Refusal → OrderedList Slot R → Type 0
-KeptIfRefused l (Ok x) m = Unit {0}
-KeptIfRefused l (Err why) m = m ≡ l
-
-abbrev pub KeptIfNone : {R : _} → OrderedList Slot R → Option ℕ → OrderedList Slot R → Type 0
-KeptIfNone l None m = m ≡ l
-KeptIfNone l (Some n) m = Unit {0}
 
 -- No slot behind the line was written.
 abbrev pub OnlyLine : {R : _} → OrderedList Slot R → OrderedList Slot R → Type 0

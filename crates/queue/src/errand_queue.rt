@@ -3,7 +3,7 @@ ghost use Rattle.model.specs.Histories.{GoesOn, by_put, by_spend, by_take};
 ghost use Rattle.model.specs.Queues.{distinct, Put, Spend, Take};
 ghost use Rattle.list.specs.Held.{held, places};
 ghost use Rattle.queue.specs.Arrivals.{best_rated};
-ghost use Rattle.queue.specs.Lines.{errands, line_meaning, line_sound, first_number, place_of, KeptIfNone, KeptIfRefused, OnlyLine};
+ghost use Rattle.queue.specs.Lines.{errands, line_meaning, line_sound, first_number, place_of, OnlyLine};
 ghost use Rattle.queue.specs.Orders.{Arises, Arose, line_chooses};
 
 use super::queues::Queue;
@@ -74,10 +74,12 @@ impl<'a, R: Rule> Queue for ErrandQueue<'a, R> {
 
     ghost chooses = { λ past q arose. line_chooses R.worth R.units past q.line arose };
 
+    ghost untouched = { λ q r. r.line ≡ q.line };
+
     fn put(&mut self, errand: Errand) -> Result<(), Refusal>
         ensures means { Put (line_meaning self.old.line) errand result (line_meaning self.new.line) }
         ensures history { GoesOn (Arises R.worth R.units) (held self.old.line) (by_put errand result) (held self.new.line) }
-        ensures kept { KeptIfRefused self.old.line result self.new.line }
+        ensures untouched { by_put errand result ≡ [] → self.new.line ≡ self.old.line }
         ensures rest { OnlyLine self.old.line self.new.line }
     {
         let slot = Slot::rated::<R>(errand)?;
@@ -97,7 +99,7 @@ impl<'a, R: Rule> Queue for ErrandQueue<'a, R> {
     fn spend(&mut self) -> Option<u32>
         ensures means { Spend (line_meaning self.old.line) result (line_meaning self.new.line) }
         ensures history { GoesOn (Arises R.worth R.units) (held self.old.line) (by_spend result) (held self.new.line) }
-        ensures kept { KeptIfNone self.old.line result self.new.line }
+        ensures untouched { by_spend result ≡ [] → self.new.line ≡ self.old.line }
         ensures rest { OnlyLine self.old.line self.new.line }
     {
         let slot = self.line.get(0)?;
@@ -113,7 +115,7 @@ impl<'a, R: Rule> Queue for ErrandQueue<'a, R> {
     fn take(&mut self, number: u32) -> Result<u32, Refusal>
         ensures means { Take (line_meaning self.old.line) number result (line_meaning self.new.line) }
         ensures history { GoesOn (Arises R.worth R.units) (held self.old.line) (by_take number result) (held self.new.line) }
-        ensures kept { KeptIfRefused self.old.line result self.new.line }
+        ensures untouched { by_take number result ≡ [] → self.new.line ≡ self.old.line }
         ensures rest { OnlyLine self.old.line self.new.line }
     {
         let place = place_of(self.line.entries(), number).ok_or(Refusal::NotWaiting)?;

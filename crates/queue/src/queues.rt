@@ -1,6 +1,7 @@
 ghost use Rattle.std.specs.Prelude.{◌≡◌};
 ghost use Rattle.model.specs.Histories.{Choice, GoesOn, History, by_put, by_spend, by_take};
 ghost use Rattle.model.specs.Queues.{Meaning, Sound, Put, Spend, Take};
+ghost use Rattle.queue.specs.Untouched.{Leaves};
 
 use model::{Errand, Refusal};
 
@@ -21,10 +22,15 @@ pub trait Queue {
 
     ghost chooses: { (past : History) (q : Self) → arises past q → (meaning q).named ≡ choice past };
 
+    // What a refused call, or a spend that finds nothing, leaves of the queue. A queue that promises nothing beyond its meaning
+    // gives the relation that always holds.
+    ghost untouched: { Self → Self → Type 0 };
+
     // Has the errand wait, or says why not.
     fn put(&mut self, errand: Errand) -> Result<(), Refusal>
         ensures means { Put (meaning self.old) errand result (meaning self.new) }
-        ensures history { GoesOn arises self.old (by_put errand result) self.new };
+        ensures history { GoesOn arises self.old (by_put errand result) self.new }
+        ensures untouched { Leaves untouched self.old (by_put errand result) self.new };
 
     // The number of the errand that is served next.
     fn name(&self) -> Option<u32>
@@ -33,10 +39,12 @@ pub trait Queue {
     // Takes one unit from the errand that is named, and answers its number.
     fn spend(&mut self) -> Option<u32>
         ensures means { Spend (meaning self.old) result (meaning self.new) }
-        ensures history { GoesOn arises self.old (by_spend result) self.new };
+        ensures history { GoesOn arises self.old (by_spend result) self.new }
+        ensures untouched { Leaves untouched self.old (by_spend result) self.new };
 
     // Drops the errand of a number, and answers the units that it had left.
     fn take(&mut self, number: u32) -> Result<u32, Refusal>
         ensures means { Take (meaning self.old) number result (meaning self.new) }
-        ensures history { GoesOn arises self.old (by_take number result) self.new };
+        ensures history { GoesOn arises self.old (by_take number result) self.new }
+        ensures untouched { Leaves untouched self.old (by_take number result) self.new };
 }

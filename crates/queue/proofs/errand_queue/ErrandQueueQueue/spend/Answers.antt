@@ -56,6 +56,6 @@ returns-else-errand-le1 g c =
       means = done.spends;
       history =
           arises_spend g.R.Rule.worth g.R.Rule.units q.line m (Some c.errand-errand.result.number) done.spends q.once done.slots;
-      kept = tt;
+      untouched = λ added. cc;
       rest = only_line q.line m _ c.replace.ensures.becomes;
     }

@@ -16,7 +16,7 @@ returns-in_err-place g c =
     record {
       means = take_missing q.line c.args.number c.from_residual.result none refused;
       history = search rules;
-      kept = search rules;
+      untouched = λ _. refl;
       rest = λ k _. refl;
     }
 
@@ -48,6 +48,6 @@ returns g c =
       history =
           arises_take g.R.Rule.worth g.R.Rule.units q.line m n q.once
           (c.remove.ensures.becomes.holds ∙ without_is n (held q.line) c.in_ok-place.place place);
-      kept = tt;
+      untouched = λ added. cc;
       rest = only_line q.line m _ c.remove.ensures.becomes;
     }
