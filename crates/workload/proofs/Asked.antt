@@ -83,6 +83,7 @@ row_asked w w' i call (Ok x) short answers left setting clock =
 row_asked w w' i call (Err why) short answers left setting clock =
     let (n, ns, some) = told_some why in
     let barred : row_refusal w.clock (get_or w.rows i no_row) call ≡ n ∷ ns = sym answers ∙ some in
-    let same : acted (duty_at (table_in w) i) w.clock (get_or w.rows i no_row) call ≡ get_or w.rows i no_row = rw (barred, acted) in
-    (row_answers w.clock (table_in w) w.rows i call w.setting.admits w.keeps short ∙ sym answers,
-     same_workload w w' setting (left ∙ ap (set w.rows i) same ∙ set-get_or w.rows i no_row) clock)
+    let same : acted (duty_at (table_in w) i) w.clock (get_or w.rows i no_row) call ≡ get_or w.rows i no_row = rw (barred, acted) in (
+      row_answers w.clock (table_in w) w.rows i call w.setting.admits w.keeps short ∙ sym answers,
+      same_workload w w' setting (left ∙ ap (set w.rows i) same ∙ set-get_or w.rows i no_row) clock,
+    )
