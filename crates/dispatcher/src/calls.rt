@@ -1,10 +1,15 @@
 // The calls of a running dispatcher. Each answers and leaves what the machine's step says. That the table stays is a clause of
-// each: it is a fact of two states, and so no invariant of one.
-ghost use Rattle.std.specs.Prelude.{◌≡◌};
+// each: it is a fact of two states, and so no invariant of one. A refused call leaves the workload as it was. It leaves the queue as it
+// was too, but for a request and a withdraw: these make one call of the queue, and the queue says itself what its refusal leaves.
+ghost use Rattle.std.specs.Prelude.{◌≡◌, [], OnErr};
 ghost use Rattle.model.specs.Histories.{GoesOn, by_call, by_put, by_take, by_tick};
 ghost use Rattle.model.specs.Machine.{Requested, RowCalled, Step, Ticks, Withdraws, fresh, slack_of, tick_answer, waits};
+ghost use Rattle.model.specs.declared.calls.Answer.TheVariants.{Refused};
+ghost use Rattle.model.specs.declared.refusals.Refusal.{Refusal};
 ghost use Rattle.model.specs.declared.rows.RowCall.TheVariants.{Release, Done};
 ghost use Rattle.table.specs.Settings.{table_of};
+ghost use Rattle.queue.specs.Untouched.{Leaves};
+ghost use Rattle.dispatcher.specs.Left.{LeftBy};
 ghost use Rattle.dispatcher.specs.Views.{answer_of, duties, view};
 
 use crate::dispatchers::Dispatcher;
@@ -31,6 +36,7 @@ impl<Q: Queue> Dispatcher<Q> {
         ensures step { RowCalled (duties self.old) (view Q.meaning self.old) row Release result (view Q.meaning self.new) }
         ensures table { duties self.new ≡ duties self.old }
         ensures queue { self.new.queue ≡ self.old.queue }
+        ensures refused { OnErr result (self.new ≡ self.old) }
     {
         self.work.release(row)
     }
@@ -40,6 +46,7 @@ impl<Q: Queue> Dispatcher<Q> {
         ensures step { RowCalled (duties self.old) (view Q.meaning self.old) row Done result (view Q.meaning self.new) }
         ensures table { duties self.new ≡ duties self.old }
         ensures queue { self.new.queue ≡ self.old.queue }
+        ensures refused { OnErr result (self.new ≡ self.old) }
     {
         self.work.done(row)
     }
@@ -49,6 +56,8 @@ impl<Q: Queue> Dispatcher<Q> {
         ensures step { Requested (view Q.meaning self.old) errand result (view Q.meaning self.new) }
         ensures table { duties self.new ≡ duties self.old }
         ensures history { GoesOn Q.arises self.old.queue (by_put errand result) self.new.queue }
+        ensures work { self.new.work ≡ self.old.work }
+        ensures untouched { Leaves Q.untouched self.old.queue (by_put errand result) self.new.queue }
     {
         self.queue.put(errand)
     }
@@ -58,6 +67,8 @@ impl<Q: Queue> Dispatcher<Q> {
         ensures step { Withdraws (view Q.meaning self.old) number result (view Q.meaning self.new) }
         ensures table { duties self.new ≡ duties self.old }
         ensures history { GoesOn Q.arises self.old.queue (by_take number result) self.new.queue }
+        ensures work { self.new.work ≡ self.old.work }
+        ensures untouched { Leaves Q.untouched self.old.queue (by_take number result) self.new.queue }
     {
         self.queue.take(number)
     }
@@ -76,11 +87,13 @@ impl<Q: Queue> Dispatcher<Q> {
         self.queue.name().is_some()
     }
 
-    // One tick: the slack before it, and who had it.
+    // One tick: the slack before it, and who had it. Unless an errand had it, the queue stays.
     pub fn tick(&mut self) -> Result<(u32, Who), Refusal>
         ensures step { Ticks (duties self.old) (view Q.meaning self.old) result (view Q.meaning self.new) }
         ensures table { duties self.new ≡ duties self.old }
         ensures history { GoesOn Q.arises self.old.queue (by_tick (tick_answer result)) self.new.queue }
+        ensures queue { by_tick (tick_answer result) ≡ [] → self.new.queue ≡ self.old.queue }
+        ensures refused { OnErr result (self.new ≡ self.old) }
     {
         let errand_waits = self.errand_waits();
         let (slack, turn) = self.work.tick(errand_waits)?;
@@ -97,6 +110,8 @@ impl<Q: Queue> Dispatcher<Q> {
         ensures step { Step (duties self.old) (view Q.meaning self.old) call result (view Q.meaning self.new) }
         ensures table { duties self.new ≡ duties self.old }
         ensures history { GoesOn Q.arises self.old.queue (by_call call result) self.new.queue }
+        ensures untouched { Leaves (LeftBy Q.untouched call) self.old.queue (by_call call result) self.new.queue }
+        ensures work { (why : Refusal) → result ≡ Refused why → self.new.work ≡ self.old.work }
     {
         self.accept(call).unwrap_or_else(Answer::Refused)
     }
@@ -106,6 +121,8 @@ impl<Q: Queue> Dispatcher<Q> {
         ensures step { Step (duties self.old) (view Q.meaning self.old) call (answer_of result) (view Q.meaning self.new) }
         ensures table { duties self.new ≡ duties self.old }
         ensures history { GoesOn Q.arises self.old.queue (by_call call (answer_of result)) self.new.queue }
+        ensures untouched { Leaves (LeftBy Q.untouched call) self.old.queue (by_call call (answer_of result)) self.new.queue }
+        ensures work { (why : Refusal) → answer_of result ≡ Refused why → self.new.work ≡ self.old.work }
     {
         let answer = match call {
             Call::Release(row) => {

@@ -2,6 +2,7 @@
 use Rattle.std.proofs.Common.{◌≡◌, ℕ, ◌<◌, true, List, [], ◌∷◌, length, get_or, take, set, Ok, Err, Result, sym, refl, ap, ◌∙◌, arith}
 use Rattle.std.proofs.lemmas.List.{get_or-take, set-get_or}
 use Rattle.std.proofs.lemmas.Bool.{cond-true, lt-ltb}
+use denote.Struct.Record.{values_one}
 use Rattle.model.proofs.Accepting.{call_keeps}
 use Rattle.model.proofs.Keeping.{kept_gives}
 use Rattle.model.proofs.Slots.{take_set}
@@ -15,6 +16,9 @@ use Rattle.model.specs.declared.duties.Duty.{Duty}
 use Rattle.model.specs.declared.refusals.Refusal.{Refusal}
 use Rattle.model.specs.declared.rows.Row.{Row}
 use Rattle.model.specs.declared.rows.RowCall.{RowCall}
+use Rattle.model.specs.contracts.rows.Row.{the_row}
+use Rattle.table.specs.contracts.settings.Setting.{the_row as the_setting}
+use Rattle.workload.specs.contracts.workloads.Workload.{struct, the_propositions}
 use Rattle.workload.specs.Acts.{RowAsked, acted}
 use Rattle.workload.specs.Workloads.{rows_in, table_in}
 use Rattle.workload.specs.declared.workloads.Workload.{Workload}
@@ -58,22 +62,28 @@ module _ (clock : ℕ) (table : List Duty) (slots : List Row) (i : ℕ) (call : 
   pub asked_keeps : kept clock table after ≡ true
   asked_keeps = after_keeps (call_refusal clock rows i call) refl
 
+-- A workload is its setting, the sixteen rows and its clock; what else it keeps are facts.
+pub same_workload : (w w' : Workload) → w'.setting ≡ w.setting → w'.rows ≡ w.rows → w'.clock ≡ w.clock → w' ≡ w
+same_workload w w' setting slots clock =
+    values_one struct (the_propositions the_setting.coded the_row.coded) w' w (λ i. (setting i, (slots i, (clock i, tt))))
+
 -- What the workload then answers and holds.
 pub row_asked : {X : Type 0} (w w' : Workload) (i : ℕ) (call : RowCall) (r : Result X Refusal)
     → i < length (table_in w)
     → refusal r ≡ row_refusal w.clock (get_or w.rows i no_row) call
-    → rows_in w' ≡ take (length (table_in w)) (set w.rows i (acted (duty_at (table_in w) i) w.clock (get_or w.rows i no_row) call))
-    → table_in w' ≡ table_in w
+    → w'.rows ≡ set w.rows i (acted (duty_at (table_in w) i) w.clock (get_or w.rows i no_row) call)
+    → w'.setting ≡ w.setting
     → w'.clock ≡ w.clock
     → RowAsked w i call r w'
-row_asked w w' i call (Ok x) short answers left table clock =
+row_asked w w' i call (Ok x) short answers left setting clock =
     let free = row_answers w.clock (table_in w) w.rows i call w.setting.admits w.keeps short ∙ sym answers in
-    (free, left ∙ accepted_rows w.clock (table_in w) w.rows i call w.setting.admits w.keeps short free, table, clock)
-row_asked w w' i call (Err why) short answers left table clock =
-    let barred = row_answers w.clock (table_in w) w.rows i call w.setting.admits w.keeps short ∙ sym answers in
-    let (n, ns, some) = told_some why in (
-      barred,
-      left ∙ refused_rows w.clock (table_in w) w.rows i call w.setting.admits w.keeps short n ns (barred ∙ some),
-      table,
-      clock,
+    let rows : rows_in w' ≡ take (length (table_in w)) (set w.rows i (acted (duty_at (table_in w) i) w.clock (get_or w.rows i no_row) call)) =
+    rw (setting, left) refl in
+    (free, rows ∙ accepted_rows w.clock (table_in w) w.rows i call w.setting.admits w.keeps short free, setting, clock)
+row_asked w w' i call (Err why) short answers left setting clock =
+    let (n, ns, some) = told_some why in
+    let barred : row_refusal w.clock (get_or w.rows i no_row) call ≡ n ∷ ns = sym answers ∙ some in
+    let same : acted (duty_at (table_in w) i) w.clock (get_or w.rows i no_row) call ≡ get_or w.rows i no_row = rw (barred, acted) in (
+      row_answers w.clock (table_in w) w.rows i call w.setting.admits w.keeps short ∙ sym answers,
+      same_workload w w' setting (left ∙ ap (set w.rows i) same ∙ set-get_or w.rows i no_row) clock,
     )

@@ -18,18 +18,18 @@ use Rattle.workload.specs.declared.workloads.Workload.{Workload}
 -- The rows have had the tick; the table and the clock are as they were.
 pub record Ran (w w' : Workload) : Type 0 where
   pub rows : rows_in w' ≡ duty_tick (table_in w) w.clock (rows_in w)
-  pub table : table_in w' ≡ table_in w
+  pub setting : w'.setting ≡ w.setting
   pub clock : w'.clock ≡ w.clock
 
 -- Such rows are kept at the next clock.
 pub ran_kept : (w w' : Workload) → Ran w w' → kept (w'.clock + 1) (table_in w') (rows_in w') ≡ true
 ran_kept w w' h =
-    rw (h.rows, h.table, h.clock) (duty_tick_keeps (table_in w) w.setting.admits w.clock (rows_in w) w.keeps)
+    rw (h.rows, h.setting, h.clock) (duty_tick_keeps (table_in w) w.setting.admits w.clock (rows_in w) w.keeps)
 
 module _ (w : Workload) where
   -- A tick that nobody has leaves the rows.
   pub nobody_ran : first_ready (rows_in w) ≡ None → Ran w w
-  nobody_ran e = record { rows = sym (rw (e, duty_tick)); table = refl; clock = refl }
+  nobody_ran e = record { rows = sym (rw (e, duty_tick)); setting = refl; clock = refl }
 
   module _ (i : ℕ) (e : first_ready (rows_in w) ≡ Some i) where
     ready_inside : i < length (table_in w)
@@ -48,7 +48,7 @@ module _ (w : Workload) where
 
     -- and has had it once it was asked to run.
     pub row_ran : {X : Type 0} (r : Result X Refusal) (w' : Workload) → RowAsked w i Run r w' → Ran w w'
-    row_ran (Ok x) w' (free, rows, table, clock) =
+    row_ran (Ok x) w' (free, rows, setting, clock) =
         let tick : duty_tick (table_in w) w.clock (rows_in w) ≡ rows_after (table_in w) w.clock (rows_in w) i Run = rw (e, duty_tick) in
-        record { rows = rows ∙ sym tick; table = table; clock = clock }
-    row_ran (Err why) w' (barred, rows, table, clock) = let (n, ns, some) = told_some why in absurd (cc (accepted, barred, some))
+        record { rows = rows ∙ sym tick; setting = setting; clock = clock }
+    row_ran (Err why) w' (barred, same) = let (n, ns, some) = told_some why in absurd (cc (accepted, barred, some))

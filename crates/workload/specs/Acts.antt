@@ -25,13 +25,9 @@ abbrev pub RowAsked : {X : Type 0} → Workload → ℕ → RowCall → Result X
 RowAsked w i call (Ok x) w' =
     (call_refusal w.clock (rows_in w) i call ≡ [])
     × (rows_in w' ≡ rows_after (table_in w) w.clock (rows_in w) i call)
-    × (table_in w' ≡ table_in w)
+    × (w'.setting ≡ w.setting)
     × (w'.clock ≡ w.clock)
-RowAsked w i call (Err why) w' =
-    (call_refusal w.clock (rows_in w) i call ≡ told why)
-    × (rows_in w' ≡ rows_in w)
-    × (table_in w' ≡ table_in w)
-    × (w'.clock ≡ w.clock)
+RowAsked w i call (Err why) w' = (call_refusal w.clock (rows_in w) i call ≡ told why) × (w' ≡ w)
 
 -- Whose turn a tick is that goes to the duties: the first ready row's, or nobody's.
 abbrev pub turn_of : Option ℕ → Turn
@@ -52,10 +48,5 @@ Ticked w waits (Ok answer) w' =
     × (answer.0 ≡ slack_in w)
     × (w'.clock ≡ w.clock + 1)
     × Turns (waits && nat_le 1 (slack_in w)) w answer.1 (rows_in w')
-    × (table_in w' ≡ table_in w)
-Ticked w waits (Err why) w' =
-    (last_clock ≤ w.clock)
-    × (told why ≡ 7 ∷ [])
-    × (rows_in w' ≡ rows_in w)
-    × (table_in w' ≡ table_in w)
-    × (w'.clock ≡ w.clock)
+    × (w'.setting ≡ w.setting)
+Ticked w waits (Err why) w' = (last_clock ≤ w.clock) × (told why ≡ 7 ∷ []) × (w' ≡ w)

@@ -72,7 +72,7 @@ impl Workload {
         requires { self.old.clock < last_clock }
         ensures turn { result ≡ turn_of (first_ready (rows_in self.old)) }
         ensures rows { rows_in self.new ≡ duty_tick (table_in self.old) self.old.clock (rows_in self.old) }
-        ensures table { table_in self.new ≡ table_in self.old }
+        ensures setting { self.new.setting ≡ self.old.setting }
         ensures clock { self.new.clock ≡ self.old.clock + 1 }
     {
         let turn = match self.first_ready() {

@@ -1,5 +1,6 @@
-ghost use Rattle.std.specs.Prelude.{◌≡◌, true, length, take};
+ghost use Rattle.std.specs.Prelude.{◌≡◌, ◌-◌, true, length, take, drop, replicate};
 ghost use Rattle.model.specs.Kept.{kept};
+ghost use Rattle.model.specs.declared.rows.Row.TheVariants.{Idle};
 ghost use Rattle.table.specs.Settings.{table_of};
 
 use model::Row;
@@ -14,4 +15,6 @@ pub struct Workload {
     pub(crate) rows: [Row; MOST_ROWS],
     pub(crate) clock: u32,
     ghost keeps: { kept clock (table_of setting) (take (length (table_of setting)) rows) ≡ true },
+    // The slots that are not in use stay as they were made.
+    ghost unused: { drop (length (table_of setting)) rows ≡ replicate (16 - length (table_of setting)) (Idle 0) },
 }

@@ -7,7 +7,8 @@ use Rattle.model.specs.Machine.{State, Step, fresh}
 use Rattle.model.specs.Runs.{Run, Trace, stay}
 use Rattle.model.specs.declared.duties.Duty.{Duty}
 use Rattle.table.specs.Settings.{table_of}
-use Rattle.dispatcher.proofs.Scripted.{calls_stay, no_entry, run_more, trace_more}
+use Rattle.dispatcher.proofs.Scripted.{calls_stay, left_more, no_entry, run_more, trace_more}
+use Rattle.dispatcher.specs.Left.{LeftAlong}
 use Rattle.dispatcher.specs.Scripts.{trace_of}
 use Rattle.dispatcher.specs.Views.{duties, view}
 use Rattle.dispatcher.specs.declared.entries.Entry.{Entry}
@@ -16,11 +17,11 @@ use Rattle.dispatcher.proofs.runs.run.Goals as goal
 pub loop-entry-init : goal.loop-entry-init
 loop-entry-init g c =
     let q = c.start-dispatcher.result.queue in
-    (stay, refl, refl, stays_on g.Q.Queue.arises q q refl, λ past _. chosen_none g.Q.Queue.choice past)
+    (stay, refl, refl, stays_on g.Q.Queue.arises q q refl, refl, λ past _. chosen_none g.Q.Queue.choice past)
 
 pub loop-entry-preserved : goal.loop-entry-preserved
 loop-entry-preserved g c =
-    let (run, table, calls, goes_on, chosen) = c.loop-entry.invariant in
+    let (run, table, calls, goes_on, left, chosen) = c.loop-entry.invariant in
     let script = c.loop-entry.script in
     let i = c.loop-entry.entry-index in
     let answer = c.carry_out-entry.result in
@@ -29,6 +30,7 @@ loop-entry-preserved g c =
     let after = view g.Q.Queue.meaning c.carry_out-entry.new.self in
     let arises = g.Q.Queue.arises in
     let choice = g.Q.Queue.choice in
+    let untouched = g.Q.Queue.untouched in
     let trace = trace_of (take i script) in
     let call = (get_or script i no_entry).call in
     let q = c.loop-entry.dispatcher.queue in
@@ -42,6 +44,7 @@ loop-entry-preserved g c =
       subst (λ (t : Trace). GoesOn arises first.queue (history t) q') more
           (subst (λ (h : History). GoesOn arises first.queue h q') (sym (history_more trace call answer))
           (goes_on_more arises first.queue q q' (history trace) (by_call call answer) goes_on c.carry_out-entry.ensures.history)),
+      subst (λ (t : Trace). LeftAlong untouched first.queue t q') more (left_more untouched first.queue q q' trace call answer left c.carry_out-entry.ensures.untouched),
       λ past arose.
           subst (λ (t : Trace). Chosen choice past t) more
           (chosen_more choice past trace call answer (chosen past arose)
@@ -52,7 +55,7 @@ loop-entry-preserved g c =
 
 pub returns : goal.returns
 returns g c =
-    let (run, table, calls, goes_on, chosen) = c.loop-entry.invariant in
+    let (run, table, calls, goes_on, left, chosen) = c.loop-entry.invariant in
     let setting = c.args.setting in
     let m = g.Q.Queue.meaning c.args.queue in
     let end = view g.Q.Queue.meaning c.loop-entry.dispatcher in
@@ -72,5 +75,8 @@ returns g c =
       calls = calls;
       table = table ∙ c.start-dispatcher.ensures.table;
       history = λ past arose. went past (started past arose);
+      untouched =
+          subst (λ start. LeftAlong g.Q.Queue.untouched start (trace_of c.loop-entry.script) c.loop-entry.dispatcher.queue) c.start-dispatcher.ensures.queue
+          (subst (λ (s : List Entry). LeftAlong g.Q.Queue.untouched q (trace_of s) c.loop-entry.dispatcher.queue) whole left);
       chosen = λ past arose. subst (λ (s : List Entry). Chosen g.Q.Queue.choice past (trace_of s)) whole (chosen past (started past arose));
     }

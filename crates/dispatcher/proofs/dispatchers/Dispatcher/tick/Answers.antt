@@ -1,5 +1,6 @@
-use Rattle.std.proofs.Common.{◌&&◌, leb, refl, subst}
+use Rattle.std.proofs.Common.{◌&&◌, leb, refl, subst, ap}
 use Rattle.model.proofs.Histories.{stays_on}
+use Rattle.table.specs.Settings.{table_of}
 use Rattle.workload.specs.Acts.{Turns, slack_in}
 use Rattle.workload.specs.Workloads.{rows_in}
 use Rattle.workload.specs.declared.turns.Turn.{Turn}
@@ -22,6 +23,8 @@ returns-in-Duty g c =
         duty_turns w w' (g.Q.Queue.meaning q) c.errand_waits-errand_waits.result c.errand_waits-errand_waits.ensures
             c.in-Duty.row turns,
       );
-      table = ticked.4;
+      table = ap table_of ticked.4;
       history = stays_on g.Q.Queue.arises q q refl;
+      queue = λ nothing. refl;
+      refused = tt;
     }

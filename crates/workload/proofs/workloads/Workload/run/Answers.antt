@@ -13,7 +13,7 @@ invariant_of-self c =
       | in-Some b ↦ rw b.self-is (row_ran w _ (sym c.first_ready.ensures ∙ b.in-Some.is) _ _ b.ask.ensures)
       | in-None b ↦ rw b.self-is (nobody_ran w (sym c.first_ready.ensures ∙ b.in-None.is))
     ] in
-    record { keeps = ran_kept w c.match-first_ready.self ran }
+    record { keeps = ran_kept w c.match-first_ready.self ran; unused = c.match-first_ready.self.unused }
 
 pub returns-clause-rows : goal.returns-clause-rows
 returns-clause-rows c =

@@ -1,5 +1,5 @@
 use Rattle.std.proofs.Common.{◌≡◌, ◌≤◌, length, take, replicate, ap, ◌∙◌}
-use Rattle.std.proofs.lemmas.List.{take-replicate}
+use Rattle.std.proofs.lemmas.List.{drop-replicate, take-replicate}
 use Rattle.model.proofs.Admitted.{admitted_says}
 use Rattle.model.proofs.Covering.{fresh_kept}
 use Rattle.model.specs.Kept.{kept}
@@ -17,7 +17,7 @@ idle_rows s =
 pub invariant_of-result : goal.invariant_of-result
 invariant_of-result c =
     let s = c.args.setting in
-    record { keeps = ap (kept 0 (table_of s)) (idle_rows s) ∙ fresh_kept (table_of s) s.admits }
+    record { keeps = ap (kept 0 (table_of s)) (idle_rows s) ∙ fresh_kept (table_of s) s.admits; unused = drop-replicate (length (table_of s)) 16 (Idle 0) }
 
 pub returns-clause-rows : goal.returns-clause-rows
 returns-clause-rows c = idle_rows c.args.setting

@@ -8,4 +8,4 @@ pub invariant_of-self : goal.invariant_of-self
 invariant_of-self c =
     let w = c.args.self.now in
     let some : 1 ≤ slack_in w = omega (arith, c.slack-slack.ensures) in
-    record { keeps = spare_tick_keeps (table_in w) w.setting.admits w.clock (rows_in w) w.keeps some }
+    record { keeps = spare_tick_keeps (table_in w) w.setting.admits w.clock (rows_in w) w.keeps some; unused = w.unused }
