@@ -1,4 +1,5 @@
 pub mod Apart
+pub mod Called
 pub mod Ends
 pub mod Firsts
 pub mod Grammatical
@@ -7,3 +8,4 @@ pub mod Numbered
 pub mod Pairs
 pub mod Printed
 pub mod Valued
+pub mod Worded

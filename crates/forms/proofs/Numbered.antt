@@ -1,9 +1,19 @@
 -- Digits read into values, and items read as so many numbers.
-use Rattle.std.proofs.Common.{◌≡◌, ℕ, suc, ◌+◌, ◌-◌, ◌*◌, ◌<◌, min, true, List, [], ◌∷◌, ◌++◌, length, take, set, Some, None, Option, refl, ap, ◌∙◌, arith}
-use Rattle.std.specs.List.{fold}
+use Rattle.std.proofs.Common.{◌≡◌, ℕ, suc, ◌+◌, ◌-◌, ◌*◌, ◌<◌, min, Bool, true, false, ◌&&◌, ◌==◌, List, [], ◌∷◌, ◌++◌, length, take, set, Some, None, Option, refl, ap, ◌∙◌, arith}
+use Rattle.std.specs.List.{fold, list_all}
 use Rattle.std.specs.Option.{option_map}
 use Rattle.std.proofs.lemmas.List.{append_assoc, take_more_set}
+use Rattle.forms.specs.Forms.{digit}
+use Rattle.forms.specs.Grammar.{all_of}
 use Rattle.forms.specs.Items.{is_number, largest, numbers, value, value_after}
+
+all_listed : (passes : ℕ → Bool) (bs : List ℕ) → list_all passes bs ≡ all_of passes bs
+all_listed passes [] = refl
+all_listed passes (b ∷ bs) = ap (λ (rest : Bool). passes b && rest) (all_listed passes bs)
+
+pub number_by_digits : (i : List ℕ) (r : Bool) → false ≡ (length i == 0) → r ≡ list_all digit i → r ≡ is_number i
+number_by_digits [] r some all = cc
+number_by_digits (b ∷ bs) r some all = all ∙ all_listed digit (b ∷ bs)
 
 -- The next byte's digit, at most the largest number.
 abbrev pub with_digit : ℕ → ℕ → ℕ

@@ -1,6 +1,6 @@
 -- Which lines are forms. A form is an opening bracket, a word, items with one space before each, and a closing
 -- bracket; an item is a number, a word or a form.
-use Rattle.std.specs.Prelude.{ℕ, ◌+◌, ◌-◌, Bool, true, false, cond, ◌&&◌, ◌||◌, List, [], ◌∷◌, take, codes, ◌==◌, nat_le, nat_lt}
+use Rattle.std.specs.Prelude.{ℕ, ◌+◌, ◌-◌, Bool, true, false, cond, ◌&&◌, ◌||◌, List, [], ◌∷◌, length, take, drop, codes, ◌==◌, nat_le, nat_lt}
 use Rattle.std.specs.Str.{bytes_eq}
 
 abbrev pub space : ℕ → Bool
@@ -48,6 +48,10 @@ closed depth (b ∷ bs) =
 abbrev pub bracketed : List ℕ → Bool
 bracketed [] = false
 bracketed (b ∷ bs) = opening b && closed 1 bs
+
+-- The first byte is an opening bracket, and another one, the last, is a closing bracket.
+abbrev pub in_brackets : List ℕ → Bool
+in_brackets bs = bytes_eq (take 1 bs) (codes "(") && bytes_eq (drop (length bs - 1) bs) (codes ")")
 
 -- Each byte may stand after the one before it.
 abbrev pub spelled_out : List ℕ → Bool

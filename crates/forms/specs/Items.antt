@@ -1,10 +1,11 @@
 -- The items of a form, and the numbers among them.
-use Rattle.std.specs.Prelude.{◌≡◌, ◌<◌, ◌≤◌, map, ℕ, zero, suc, ◌+◌, ◌-◌, ◌*◌, min, Bool, true, cond, ◌&&◌, List, [], ◌∷◌, length, take, drop, Some, None, Option, ◌==◌, nat_le, nat_lt, slice_index}
+use Rattle.std.specs.Prelude.{◌≡◌, ◌<◌, ◌≤◌, map, ℕ, zero, suc, ◌+◌, ◌-◌, ◌*◌, min, Bool, true, cond, not, ◌&&◌, List, [], ◌∷◌, length, take, drop, Some, None, Option, ◌==◌, nat_le, nat_lt}
 use Rattle.std.specs.Option.{option_map}
 use Rattle.forms.specs.declared.faults.Place.{Place}
 use Rattle.forms.specs.declared.items.Items.{Items}
 use Rattle.forms.specs.declared.lines.Part.{Part}
-use Rattle.forms.specs.Forms.{closing, digit, opening, space}
+use Rattle.forms.specs.Forms.{closing, digit, empty, opening, space}
+use Rattle.forms.specs.Grammar.{all_of}
 
 -- What stands between a form's first and last byte.
 abbrev pub inside : List ℕ → List ℕ
@@ -76,9 +77,9 @@ abbrev pub FromByte : Part → ℕ → Option Part → Type 0
 FromByte p n None = length p.bytes.now < n
 FromByte p n (Some q) = (n ≤ length p.bytes.now) × (q.bytes.now ≡ drop n p.bytes.now) × (q.place ≡ further p.place n)
 
--- In a form an item that begins with a digit is a number.
+-- A number: one digit or more, and nothing else.
 abbrev pub is_number : List ℕ → Bool
-is_number i = digit (slice_index i 0)
+is_number i = not (empty i) && all_of digit i
 
 -- The largest number that a sheet may hold.
 abbrev pub largest : ℕ

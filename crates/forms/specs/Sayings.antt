@@ -5,7 +5,7 @@ use Rattle.std.specs.Str.{bytes_eq}
 use Rattle.model.specs.declared.calls.Call.{Call}
 use Rattle.model.specs.declared.calls.Call.TheVariants.{Release, Done, Request, Withdraw}
 use Rattle.forms.specs.Faults.{Fault, Forms, fault, judged, unless}
-use Rattle.forms.specs.Forms.{is_form, is_remark, opening}
+use Rattle.forms.specs.Forms.{bracketed, is_form, is_remark, spelled_out}
 use Rattle.forms.specs.Items.{inside, is_number, items, numbers, numbers_fit, value}
 use Rattle.forms.specs.Lines.{Line, bad_letter}
 use Rattle.forms.specs.declared.sayings.QueueName.TheVariants.{First, Worth}
@@ -26,9 +26,9 @@ abbrev pub call_of_items : List (List ℕ) → Option Call
 call_of_items [] = None
 call_of_items (word ∷ is) = worded_call word is
 
--- The call that an item is, if it is one.
+-- The call that an item is: of a form, what its word and its items say; what is no form is no call.
 abbrev pub call : List ℕ → Option Call
-call item = cond (opening (slice_index item 0)) (call_of_items (items 0 (inside item))) None
+call item = cond (bracketed item && spelled_out item) (call_of_items (items 0 (inside item))) None
 
 abbrev pub all_calls : List (List ℕ) → Bool
 all_calls [] = true

@@ -6,6 +6,7 @@ ghost use Rattle.forms.specs.Sayings.{all_calls, call, some_calls, worded_call};
 use crate::items::Items;
 use crate::lines::Part;
 use crate::numbers::numbers;
+use crate::shapes::in_brackets;
 use model::{Call, Errand};
 
 // What each word of a call wants.
@@ -37,13 +38,14 @@ fn worded_call(word: &[u8], items: Items) -> Option<Call>
     }
 }
 
-// The call that an item is, if it is one.
+// The call that an item is, if it is one. A word and numbers between two brackets are a form, so no other test is needed.
+#[tactic(auto, using(crate::proofs::Called::call_by_brackets))]
 pub fn call(item: Part) -> Option<Call>
     ensures { result ≡ call item.entry.bytes.now }
 {
-    let [b'(', ..] = item.bytes else {
+    if !in_brackets(item.bytes) {
         return None;
-    };
+    }
     let mut items = Items::new(item);
     let word = items.next()?;
     worded_call(word.bytes, items)

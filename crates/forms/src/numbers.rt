@@ -11,11 +11,11 @@ const LARGEST: u64 = 4294967295;
 // The most digits that it may be written with.
 const MOST_DIGITS: usize = 10;
 
-// In a form an item that begins with a digit is a number.
+// One digit or more, and nothing else.
 pub fn is_number(item: &[u8]) -> bool
     ensures { result ≡ is_number item.now }
 {
-    item.first().is_some_and(|b| b.is_ascii_digit())
+    !item.is_empty() && item.iter().all(|b| b.is_ascii_digit())
 }
 
 // The value of digits, or the largest number where it is past that: a `u32` holds no larger one, and `parse` would fail there.

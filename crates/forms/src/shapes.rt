@@ -1,7 +1,7 @@
 // Which lines are forms: brackets that pair up, and bytes that may stand one after the other.
 ghost use Rattle.std.specs.Prelude.{◌≡◌};
 ghost use Rattle.forms.specs.Grammar.{FormsByGrammar};
-ghost use Rattle.forms.specs.Forms.{bracketed, is_form, is_remark, may_follow, spelled_out};
+ghost use Rattle.forms.specs.Forms.{bracketed, in_brackets, is_form, is_remark, may_follow, spelled_out};
 
 // The deepest that brackets may nest.
 const DEEPEST: usize = 16;
@@ -47,6 +47,13 @@ fn bracketed(part: &[u8]) -> bool
         }
     }
     false
+}
+
+// The first byte is an opening bracket, and the last one a closing bracket.
+pub fn in_brackets(part: &[u8]) -> bool
+    ensures { result ≡ in_brackets part.now }
+{
+    part.starts_with(b"(") && part.ends_with(b")")
 }
 
 // The line begins as a remark.

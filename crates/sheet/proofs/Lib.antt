@@ -1,6 +1,10 @@
 pub mod Called
 pub mod Counted
+pub mod Ended
+pub mod Faulty
+pub mod Firsts
 pub mod Judgements
 pub mod Lined
 pub mod Printed
 pub mod Punctual
+pub mod Ruled

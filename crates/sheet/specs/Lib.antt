@@ -1,5 +1,6 @@
 pub mod Ats
 pub mod Laws
 pub mod Orders
+pub mod Rules
 pub mod Sheets
 pub mod Told

@@ -15,4 +15,4 @@ mod tests;
 pub use ats::{At, Calls};
 pub use drafts::Sheet;
 pub use faults::{SheetFault, TableFault};
-pub use reading::{read, sheets_hold};
+pub use reading::{read, read_by_rules, sheets_hold};

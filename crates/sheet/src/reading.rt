@@ -5,6 +5,7 @@ ghost use Rattle.forms.specs.Lines.{lines_left};
 ghost use Rattle.sheet.specs.Ats.{at_of};
 ghost use Rattle.sheet.specs.Laws.{SheetsHold};
 ghost use Rattle.sheet.specs.Orders.{drafted, lines_judged, nothing_read, so_far};
+ghost use Rattle.sheet.specs.Rules.{ByRules};
 ghost use Rattle.sheet.specs.Sheets.{late, missing_line, outcome, sheet_of, too_long, whole};
 ghost use Rattle.sheet.specs.Told.{sheet_told, table_told};
 
@@ -77,6 +78,11 @@ pub fn read<'a>(text: &'a [u8]) -> Result<Sheet<'a>, TableFault>
     let draft = entered(Reader::new(text))?;
     Ok(finished(draft, text)?)
 }
+
+// A text is read as the rules say: as a sheet, or with the one fault that counts.
+pub fn read_by_rules()
+    ensures { ByRules }
+{}
 
 // In every sheet that is read, each at-line has calls, all of which are handed out, and comes before the end.
 pub fn sheets_hold()
