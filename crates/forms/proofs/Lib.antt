@@ -5,5 +5,4 @@ pub mod Grammatical
 pub mod Itemized
 pub mod Numbered
 pub mod Pairs
-pub mod Printed
 pub mod Valued

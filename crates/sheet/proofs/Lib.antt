@@ -2,5 +2,4 @@ pub mod Called
 pub mod Counted
 pub mod Judgements
 pub mod Lined
-pub mod Printed
 pub mod Punctual

@@ -2,11 +2,15 @@
 #![tactic(auto)]
 
 mod arranging;
+mod faults;
 mod lines;
+mod pushing;
+mod room;
 mod running;
 mod scheduling;
 mod totals;
 mod transcripts;
 mod upcoming;
 
-pub use transcripts::{one_transcript, transcript};
+pub use room::Room;
+pub use transcripts::one_transcript;
