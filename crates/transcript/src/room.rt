@@ -1,4 +1,4 @@
-ghost use Rattle.std.specs.Prelude.{◌≡◌, ◌≤◌, [], string_bytes, string_capacity, vec_capacity};
+ghost use Rattle.std.specs.Prelude.{◌≡◌, ◌+◌, ◌*◌, ◌≤◌, [], string_bytes, string_capacity, vec_capacity};
 ghost use Rattle.transcript.specs.Transcripts.{Printed};
 
 use crate::faults::push_fault;
@@ -7,12 +7,12 @@ use dispatcher::Entry;
 use sheet::read;
 use std::alloc::{AllocError, Global};
 
-// The most calls of a script: a text has at most 32,768 bytes, each call of an at-line takes some of them, and there are at most
-// 10,000 ticks.
-const MOST_CALLS: usize = 42768;
+// The most calls of a script: a text has at most 32,768 bytes, of which each call of an at-line takes one or more, and there are at
+// most 10,000 ticks.
+const MOST_CALLS: usize = 32768 + 10000;
 
-// The most bytes of a transcript: 96 for each of 16 rows and of the calls of a script, and 192 for the totals, or for a fault.
-const MOST_BYTES: usize = 4107456;
+// The most bytes of a transcript: 96 for each row, of which there are at most 16, and for each call, and 192 for the totals.
+const MOST_BYTES: usize = 96 * (16 + MOST_CALLS) + 192;
 
 // The memory in which one transcript is made, enough for that of any text. It is asked for before any text is known, so that what
 // is printed of a text cannot end for want of memory.
@@ -21,7 +21,7 @@ pub struct Room {
     script: Vec<Entry>,
     out: String,
     ghost empty: { (script.items ≡ []) × (string_bytes out ≡ []) },
-    ghost large: { (42768 ≤ vec_capacity script) × (4107456 ≤ string_capacity out) },
+    ghost large: { (42768 ≤ vec_capacity script) × (96 * (16 + 42768) + 192 ≤ string_capacity out) },
 }
 
 impl Room {

@@ -18,8 +18,8 @@ push_due-requires c =
     let clock = c.loop-clock.clock in
     let rest = c.loop-clock.upcoming.line.now in
     let fits =
-    clock_fits ats clock c.args.ticks (vec_capacity c.args.script.now) (due clock rest) (calls_of c.loop-clock.script.items) (omega arith)
-    c.requires.room (due_now clock ats rest c.loop-clock.invariant.ahead) c.loop-clock.invariant.so_far in
+    clock_fits ats clock c.args.ticks (vec_capacity c.args.script.now) rest (calls_of c.loop-clock.script.items) (omega arith)
+    c.requires.room c.loop-clock.invariant.ahead c.loop-clock.invariant.so_far in
     omega (arith, fits, c.loop-clock.invariant.room)
 
 pub push_reserved-requires : goal.push_reserved-requires
@@ -28,8 +28,8 @@ push_reserved-requires c =
     let clock = c.loop-clock.clock in
     let rest = c.loop-clock.upcoming.line.now in
     let fits =
-    clock_fits ats clock c.args.ticks (vec_capacity c.args.script.now) (due clock rest) (calls_of c.loop-clock.script.items) (omega arith)
-    c.requires.room (due_now clock ats rest c.loop-clock.invariant.ahead) c.loop-clock.invariant.so_far in
+    clock_fits ats clock c.args.ticks (vec_capacity c.args.script.now) rest (calls_of c.loop-clock.script.items) (omega arith)
+    c.requires.room c.loop-clock.invariant.ahead c.loop-clock.invariant.so_far in
     omega (arith, fits, ap length c.push_due.ensures.calls, length-map c.push_due.new.script.items call_of, c.push_due.ensures.room, c.loop-clock.invariant.room)
 
 pub loop-clock-preserved : goal.loop-clock-preserved
