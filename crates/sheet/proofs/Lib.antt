@@ -1,6 +1,8 @@
 pub mod Called
 pub mod Counted
 pub mod Judgements
+pub mod Kept
 pub mod Lined
 pub mod Printed
 pub mod Punctual
+pub mod Small

@@ -5,8 +5,10 @@ mod arranging;
 mod lines;
 mod running;
 mod scheduling;
+mod sizes;
 mod totals;
 mod transcripts;
 mod upcoming;
 
+pub use sizes::{scripts_fit, sheets_fit};
 pub use transcripts::{one_transcript, transcript};
