@@ -3,6 +3,7 @@ pub mod Ends
 pub mod Firsts
 pub mod Grammatical
 pub mod Itemized
+pub mod Lengths
 pub mod Numbered
 pub mod Pairs
 pub mod Valued

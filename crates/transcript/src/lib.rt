@@ -8,9 +8,11 @@ mod pushing;
 mod room;
 mod running;
 mod scheduling;
+mod sizes;
 mod totals;
 mod transcripts;
 mod upcoming;
 
 pub use room::Room;
+pub use sizes::{scripts_fit, sheets_fit};
 pub use transcripts::one_transcript;
