@@ -3,8 +3,9 @@ use Rattle.std.proofs.Common.{◌≡◌, ℕ, suc, ◌+◌, ◌≤◌, Bool, tru
 use Rattle.std.specs.List.{position_or_len}
 use Rattle.std.proofs.lemmas.Bool.{cases_Bool}
 use Rattle.std.proofs.lemmas.Bool.Decides.{nat_tests}
-use Rattle.forms.specs.Faults.{Fault, Letters, fault}
+use Rattle.forms.specs.Faults.{Fault, fault}
 use Rattle.forms.specs.Lines.{allowed, bad_letter, line_length, next_byte}
+use Rattle.forms.specs.declared.faults.Layer.TheVariants.{Letters}
 use Rattle.forms.specs.declared.faults.Place.{Place}
 
 one_more : {m n : ℕ} → m ≡ n → 1 + m ≡ suc n

@@ -4,8 +4,8 @@ pub mod Ends
 pub mod Firsts
 pub mod Grammatical
 pub mod Itemized
+pub mod Lengths
 pub mod Numbered
 pub mod Pairs
-pub mod Printed
 pub mod Valued
 pub mod Worded

@@ -1,24 +1,16 @@
--- Faults, as they are told: a number, a line, a byte and a layer; and as they are printed.
-use Rattle.std.specs.Prelude.{ℕ, Bool, true, false, List, [], ◌∷◌, ◌++◌, Some, None, Ok, Err, codes, decimal, Option, Result}
+-- Faults, as they are told: a number, a line, a byte and a layer.
+use Rattle.std.specs.Prelude.{ℕ, Bool, true, false, List, [], ◌∷◌, Some, None, Ok, Err, Option, Result}
 use Rattle.forms.specs.declared.faults.FormsFault.{FormsFault}
 use Rattle.forms.specs.declared.faults.FormsFault.TheVariants.{Letters as OfLetters, NotAForm, WrongItems, TooLarge}
 use Rattle.forms.specs.declared.faults.LettersFault.{LettersFault}
 use Rattle.forms.specs.declared.faults.Place.{Place}
+use Rattle.forms.specs.declared.faults.Layer.{Layer}
+use Rattle.forms.specs.declared.faults.Layer.TheVariants.{Letters, Forms}
+use Rattle.forms.specs.declared.faults.Report.{Report}
 
--- The layer of reading in which a fault was found.
-pub data Layer : Type 0 where
-  Letters : Layer
-  Forms : Layer
-  Sheet : Layer
-  Table : Layer
-
--- A fault. Behind an unschedulable table stands the row that has no response time.
-pub record Fault : Type 0 where
-  pub number : ℕ
-  pub line : ℕ
-  pub byte : ℕ
-  pub layer : Layer
-  pub row : Option ℕ
+-- A fault is told by the report that is given of it.
+abbrev pub Fault : Type 0
+Fault = Report
 
 -- A fault with no row.
 abbrev pub fault : ℕ → Layer → Place → Fault
@@ -54,27 +46,3 @@ abbrev pub judged : {X : Type 0} → List (Option Fault) → X → Result X Faul
 judged [] x = Ok x
 judged (None ∷ faults) x = judged faults x
 judged (Some f ∷ faults) x = Err f
-
--- `LINE BYTE`
-abbrev pub place_words : Place → List ℕ
-place_words p = decimal p.line ++ (codes " " ++ decimal p.byte)
-
-abbrev pub layer_word : Layer → List ℕ
-layer_word Letters = codes "letters"
-layer_word Forms = codes "forms"
-layer_word Sheet = codes "sheet"
-layer_word Table = codes "table"
-
--- The end of a fault's words: a row, if there is one, stands behind the layer.
-abbrev pub behind_layer : Option ℕ → List ℕ
-behind_layer None = codes ")"
-behind_layer (Some row) = codes " " ++ (decimal row ++ codes ")")
-
--- `(fault NUMBER LINE BYTE LAYER)`, `(fault NUMBER LINE BYTE LAYER ROW)`
-abbrev pub fault_words : Fault → List ℕ
-fault_words f =
-    codes "(fault "
-    ++ (decimal f.number
-    ++ (codes " "
-    ++ (decimal f.line
-    ++ (codes " " ++ (decimal f.byte ++ (codes " " ++ (layer_word f.layer ++ behind_layer f.row)))))))

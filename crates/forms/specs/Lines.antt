@@ -1,7 +1,8 @@
 -- The lines of a text, and the bytes that they may hold.
 use Rattle.std.specs.Prelude.{◌≡◌, ℕ, suc, ◌+◌, ◌≤◌, Bool, true, false, cond, ◌&&◌, List, [], ◌∷◌, length, drop, IfSome, Some, None, Option, ◌==◌, nat_le}
 use Rattle.std.specs.Iterator.{YieldsFirstBy}
-use Rattle.forms.specs.Faults.{Fault, Letters, fault}
+use Rattle.forms.specs.Faults.{Fault, fault}
+use Rattle.forms.specs.declared.faults.Layer.TheVariants.{Letters}
 use Rattle.forms.specs.declared.faults.Place.{Place}
 use Rattle.forms.specs.declared.lines.Line.{Line as LinePart}
 use Rattle.forms.specs.declared.lines.Reader.{Reader}

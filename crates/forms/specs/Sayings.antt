@@ -4,10 +4,11 @@ use Rattle.std.specs.Option.{option_map, unwrap_or}
 use Rattle.std.specs.Str.{bytes_eq}
 use Rattle.model.specs.declared.calls.Call.{Call}
 use Rattle.model.specs.declared.calls.Call.TheVariants.{Release, Done, Request, Withdraw}
-use Rattle.forms.specs.Faults.{Fault, Forms, fault, judged, unless}
+use Rattle.forms.specs.Faults.{Fault, fault, judged, unless}
 use Rattle.forms.specs.Forms.{bracketed, is_form, is_remark, spelled_out}
 use Rattle.forms.specs.Items.{inside, is_number, items, numbers, numbers_fit, value}
 use Rattle.forms.specs.Lines.{Line, bad_letter}
+use Rattle.forms.specs.declared.faults.Layer.TheVariants.{Forms}
 use Rattle.forms.specs.declared.sayings.QueueName.TheVariants.{First, Worth}
 use Rattle.forms.specs.declared.sayings.Said.{Said}
 use Rattle.forms.specs.declared.sayings.Said.TheVariants.{Sheet, Duty as AddDuty, Queue, At, End, Remark}

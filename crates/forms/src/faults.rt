@@ -7,6 +7,25 @@ pub struct Place {
     pub byte: usize,
 }
 
+// The layer of reading in which a fault was found.
+#[derive(Clone, Copy, PartialEq, Eq, Debug)]
+pub enum Layer {
+    Letters,
+    Forms,
+    Sheet,
+    Table,
+}
+
+// A fault as it is told. Behind an unschedulable table stands the row that has no response time.
+#[derive(Clone, Copy, PartialEq, Eq, Debug)]
+pub struct Report {
+    pub number: u32,
+    pub line: usize,
+    pub byte: usize,
+    pub layer: Layer,
+    pub row: Option<u32>,
+}
+
 // A byte that is not allowed.
 #[derive(Clone, Copy, PartialEq, Eq, Debug)]
 pub struct LettersFault(pub Place);

@@ -17,7 +17,7 @@ mod splitting;
 mod wording;
 
 pub use calls::call;
-pub use faults::{FormsFault, LettersFault, Place};
+pub use faults::{FormsFault, Layer, LettersFault, Place, Report};
 pub use itemizing::taken_apart;
 pub use items::Items;
 pub use judging::form_said;

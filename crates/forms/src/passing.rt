@@ -1,9 +1,8 @@
-// Faults passed on from layer to layer, and printed; each keeps its number, line, byte and layer.
-ghost use Rattle.std.specs.Prelude.{◌≡◌, Some};
-ghost use Rattle.forms.specs.Faults.{fault_words, forms_told, letters_told, place_words};
+// Faults passed on from layer to layer, and told; each keeps its number, line, byte and layer.
+ghost use Rattle.std.specs.Prelude.{◌≡◌};
+ghost use Rattle.forms.specs.Faults.{fault, forms_told, letters_told};
 
-use crate::faults::{FormsFault, LettersFault, Place};
-use std::fmt;
+use crate::faults::{FormsFault, Layer, LettersFault, Place, Report};
 
 // By hand: a derived `From` has no `from_gives`, by which clauses name the error that `?` makes.
 impl From<LettersFault> for FormsFault {
@@ -14,62 +13,31 @@ impl From<LettersFault> for FormsFault {
     }
 }
 
-impl FormsFault {
-    // The number under which the fault is reported.
-    pub fn number(&self) -> u32
-        ensures { result ≡ (forms_told self.now).number }
+impl Report {
+    // A fault with no row.
+    pub fn new(number: u32, layer: Layer, place: Place) -> Report
+        ensures { result ≡ fault number layer place }
     {
-        match self {
-            FormsFault::Letters(_) => 12,
-            FormsFault::NotAForm(_) => 13,
-            FormsFault::WrongItems(_) => 14,
-            FormsFault::TooLarge(_) => 15,
+        Report {
+            number,
+            line: place.line,
+            byte: place.byte,
+            layer,
+            row: None,
         }
     }
+}
 
-    // Where the fault was found.
-    pub fn place(&self) -> Place
-        ensures line { result.line ≡ (forms_told self.now).line }
-        ensures byte { result.byte ≡ (forms_told self.now).byte }
+impl FormsFault {
+    // The fault as it is told.
+    pub fn report(&self) -> Report
+        ensures { result ≡ forms_told self.now }
     {
         match *self {
-            FormsFault::Letters(LettersFault(place))
-            | FormsFault::NotAForm(place)
-            | FormsFault::WrongItems(place)
-            | FormsFault::TooLarge(place) => place,
-        }
-    }
-}
-
-impl fmt::Display for Place {
-    ghost output = { λ place. Some (place_words place) };
-
-    fn fmt<W: fmt::Write>(&self, f: &mut fmt::Formatter<W>) -> fmt::Result {
-        let line = self.line;
-        let byte = self.byte;
-        write!(f, "{line} {byte}")
-    }
-}
-
-// Each fault's line is written out as it is printed: a function of number and layer would be read beside a table of both.
-impl fmt::Display for LettersFault {
-    ghost output = { λ fault. Some (fault_words (letters_told fault)) };
-
-    fn fmt<W: fmt::Write>(&self, f: &mut fmt::Formatter<W>) -> fmt::Result {
-        let place = self.0;
-        write!(f, "(fault 12 {place} letters)")
-    }
-}
-
-impl fmt::Display for FormsFault {
-    ghost output = { λ fault. Some (fault_words (forms_told fault)) };
-
-    fn fmt<W: fmt::Write>(&self, f: &mut fmt::Formatter<W>) -> fmt::Result {
-        match self {
-            FormsFault::Letters(fault) => write!(f, "{fault}"),
-            FormsFault::NotAForm(place) => write!(f, "(fault 13 {place} forms)"),
-            FormsFault::WrongItems(place) => write!(f, "(fault 14 {place} forms)"),
-            FormsFault::TooLarge(place) => write!(f, "(fault 15 {place} forms)"),
+            FormsFault::Letters(LettersFault(place)) => Report::new(12, Layer::Letters, place),
+            FormsFault::NotAForm(place) => Report::new(13, Layer::Forms, place),
+            FormsFault::WrongItems(place) => Report::new(14, Layer::Forms, place),
+            FormsFault::TooLarge(place) => Report::new(15, Layer::Forms, place),
         }
     }
 }

@@ -6,12 +6,13 @@ use Rattle.std.proofs.ByRecursion.{All-push}
 use Rattle.std.proofs.lemmas.List.{append_assoc, drop_at, drop-take, take_at}
 use Rattle.std.proofs.lemmas.Bool.{and_parts, cases_Bool, cond-true, ltb-true}
 use Rattle.model.specs.declared.calls.Call.{Call}
-use Rattle.forms.specs.Faults.{Fault, Sheet as SheetLayer, fault, unless}
+use Rattle.forms.specs.Faults.{Fault, fault, unless}
 use Rattle.forms.specs.Forms.{is_remark}
 use Rattle.forms.specs.Items.{inside, is_number, items, numbers}
 use Rattle.forms.specs.Laws.{Follow, behind, with_end}
 use Rattle.forms.specs.Lines.{Line, first_place, lines}
 use Rattle.forms.specs.Sayings.{all_calls, at_said, call, duty_said, end_said, forms_faults, letters_faults, queue_said, said, said_by_items, says, sheet_of_numbers, some_calls}
+use Rattle.forms.specs.declared.faults.Layer.TheVariants.{Sheet as SheetLayer}
 use Rattle.forms.specs.declared.faults.Place.{Place}
 use Rattle.forms.specs.declared.sayings.QueueName.TheVariants.{First, Worth}
 use Rattle.forms.specs.declared.sayings.Said.{Said}

@@ -4,7 +4,8 @@ pub mod Ended
 pub mod Faulty
 pub mod Firsts
 pub mod Judgements
+pub mod Kept
 pub mod Lined
-pub mod Printed
 pub mod Punctual
 pub mod Ruled
+pub mod Small

@@ -4,7 +4,8 @@ use Rattle.std.specs.Borrow.{Bor}
 use Rattle.std.specs.List.{find}
 use Rattle.std.specs.Option.{option_map}
 use Rattle.std.proofs.lemmas.Bool.Decides.{nat_tests}
-use Rattle.forms.specs.Faults.{Fault, Sheet, fault}
+use Rattle.forms.specs.Faults.{Fault, fault}
+use Rattle.forms.specs.declared.faults.Layer.TheVariants.{Sheet}
 use Rattle.sheet.specs.Ats.{at_of}
 use Rattle.sheet.specs.Sheets.{late}
 use Rattle.sheet.specs.declared.ats.At.{At}

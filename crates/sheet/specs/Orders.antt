@@ -4,7 +4,7 @@ use Rattle.std.specs.Prelude.{ℕ, Bool, true, false, List, [], ◌∷◌, ◌++
 use Rattle.model.specs.Table.{add_refusal, after_add}
 use Rattle.model.specs.declared.duties.Duty.{Duty}
 use Rattle.table.specs.Settings.{table_of}
-use Rattle.forms.specs.Faults.{Fault, Sheet as SheetLayer, fault, judged, unless}
+use Rattle.forms.specs.Faults.{Fault, fault, judged, unless}
 use Rattle.sheet.specs.Ats.{AtLine, at_of}
 use Rattle.sheet.specs.Told.{table_fault}
 use Rattle.forms.specs.Lines.{Line}
@@ -12,6 +12,7 @@ use Rattle.forms.specs.Sayings.{forms_faults, letters_faults, says}
 use Rattle.sheet.specs.declared.drafts.Draft.{Draft}
 use Rattle.sheet.specs.declared.drafts.Stage.{Stage}
 use Rattle.sheet.specs.declared.drafts.Stage.TheVariants.{Start, Duties, Ats, Over}
+use Rattle.forms.specs.declared.faults.Layer.TheVariants.{Sheet as SheetLayer}
 use Rattle.forms.specs.declared.faults.Place.{Place}
 use Rattle.forms.specs.declared.sayings.QueueName.{QueueName}
 use Rattle.forms.specs.declared.sayings.QueueName.TheVariants.{First}

@@ -2,13 +2,14 @@
 use Rattle.std.specs.Prelude.{ℕ, ◌+◌, Bool, true, false, cond, List, [], ◌∷◌, length, map, Some, None, Ok, Err, Option, Result, nat_le, nat_lt}
 use Rattle.model.specs.declared.duties.Duty.{Duty}
 use Rattle.table.specs.Settings.{table_of}
-use Rattle.forms.specs.Faults.{Fault, Sheet as SheetLayer, fault, judged, unless}
+use Rattle.forms.specs.Faults.{Fault, fault, judged, unless}
 use Rattle.forms.specs.Lines.{first_place, lines}
 use Rattle.sheet.specs.Ats.{AtLine, at_of}
 use Rattle.sheet.specs.Orders.{SoFar, lines_judged, nothing_read}
 use Rattle.sheet.specs.declared.drafts.Sheet.{Sheet}
 use Rattle.sheet.specs.declared.drafts.Stage.{Stage}
 use Rattle.sheet.specs.declared.drafts.Stage.TheVariants.{Start, Duties, Ats, Over}
+use Rattle.forms.specs.declared.faults.Layer.TheVariants.{Sheet as SheetLayer}
 use Rattle.forms.specs.declared.faults.Place.{Place}
 use Rattle.forms.specs.declared.sayings.QueueName.{QueueName}
 

@@ -1,7 +1,8 @@
 -- The number and the values of each fault of the sheet and of the table.
 use Rattle.std.specs.Prelude.{ℕ, List, [], ◌∷◌, Some, None, Option, slice_index}
 use Rattle.model.specs.Refusals.{told}
-use Rattle.forms.specs.Faults.{Fault, Sheet, Table, fault, forms_told}
+use Rattle.forms.specs.Faults.{Fault, fault, forms_told}
+use Rattle.forms.specs.declared.faults.Layer.TheVariants.{Sheet, Table}
 use Rattle.forms.specs.declared.faults.Place.{Place}
 use Rattle.sheet.specs.declared.faults.SheetFault.{SheetFault}
 use Rattle.sheet.specs.declared.faults.SheetFault.TheVariants.{Forms as OfForms, OutOfOrder, TooLong}

@@ -1,19 +1,15 @@
 // A sheet that is read, and a fault of each layer.
 use crate::read;
-use forms::{Items, Place};
+use forms::{Items, Layer, Place, Report};
 use model::Call;
-use std::alloc::{AllocError, Global};
 use std::test::Fail;
 
 const HARVEST: &[u8] =
     b"(sheet 1)\n(duty 0 1 4 4)\n(duty 1 2 6 6)\n(remark two duties)\n(queue worth)\n(at 0 (release 0) (request 7 3 10))\n(at 4 (release 1))\n(end 5)\n";
 
-// The fault of a text as it is printed, and nothing where it is a sheet.
-fn fault_of(heap: Global, text: &[u8]) -> Result<String, AllocError> {
-    match read(text) {
-        Ok(_) => Ok(String::new(heap)),
-        Err(fault) => format!(in heap; "{fault}"),
-    }
+// The fault of a text, and nothing where it is a sheet.
+fn told(text: &[u8]) -> Option<Report> {
+    read(text).err().map(|fault| fault.report())
 }
 
 #[test]
@@ -36,27 +32,19 @@ fn a_sheet_is_read(rt: HostRuntime) -> Result<(), Fail> {
 
 #[test]
 fn each_layer_has_faults(rt: HostRuntime) -> Result<(), Fail> {
-    let heap = rt.alloc();
-    assert_eq!(rt; fault_of(heap, b"")?.as_str(), "(fault 16 1 0 sheet)");
-    assert_eq!(rt;
-        fault_of(heap, b"(sheet\t1)\n")?.as_str(),
-        "(fault 12 1 6 letters)"
-    );
-    assert_eq!(rt;
-        fault_of(heap, b"(sheet 1)\n\n")?.as_str(),
-        "(fault 13 2 10 forms)"
-    );
-    assert_eq!(rt;
-        fault_of(heap, b"(sheet 2)\n")?.as_str(),
-        "(fault 14 1 0 forms)"
-    );
-    assert_eq!(rt;
-        fault_of(heap, b"(sheet 1)\n(end 10001)\n")?.as_str(),
-        "(fault 15 2 10 forms)"
-    );
-    assert_eq!(rt;
-        fault_of(heap, b"(sheet 1)\n(duty 0 2 1 4)\n")?.as_str(),
-        "(fault 2 2 10 table)"
-    );
+    let first = Place { line: 1, byte: 0 };
+    let second = Place { line: 2, byte: 10 };
+    let missing = Report::new(16, Layer::Sheet, first);
+    assert!(rt; told(b"") == Some(missing));
+    let letter = Report::new(12, Layer::Letters, Place { line: 1, byte: 6 });
+    assert!(rt; told(b"(sheet\t1)\n") == Some(letter));
+    let no_form = Report::new(13, Layer::Forms, second);
+    assert!(rt; told(b"(sheet 1)\n\n") == Some(no_form));
+    let wrong = Report::new(14, Layer::Forms, first);
+    assert!(rt; told(b"(sheet 2)\n") == Some(wrong));
+    let large = Report::new(15, Layer::Forms, second);
+    assert!(rt; told(b"(sheet 1)\n(end 10001)\n") == Some(large));
+    let limits = Report::new(2, Layer::Table, second);
+    assert!(rt; told(b"(sheet 1)\n(duty 0 2 1 4)\n") == Some(limits));
     Ok(())
 }

@@ -3,14 +3,14 @@
 #![tactic(auto)]
 
 use std::{fs, io};
-use transcript::transcript;
+use transcript::Room;
 
 // The transcript of a stored sheet is its text, to the byte.
 fn agrees(rt: &HostRuntime, name: &str) -> io::Result<bool> {
     let heap = rt.alloc();
     let sheet = fs::read(rt, format!(in heap; "{name}.sheet")?)?;
     let text = fs::read(rt, format!(in heap; "{name}.text")?)?;
-    let out = transcript(heap, sheet.as_slice())?;
+    let out = Room::new(heap)?.transcript(sheet.as_slice());
     Ok(out.as_bytes() == text.as_slice())
 }
 

@@ -1,5 +1,6 @@
 pub mod Balanced
 pub mod Clocks
+pub mod Fitting
 pub mod Growing
 pub mod Inserting
 pub mod Rendered

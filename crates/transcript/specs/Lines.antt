@@ -1,5 +1,5 @@
 -- The lines of a transcript, as bytes. Each ends with byte 10.
-use Rattle.std.specs.Prelude.{ℕ, List, [], ◌++◌, codes, decimal, slice_index}
+use Rattle.std.specs.Prelude.{ℕ, List, [], ◌++◌, Some, None, Option, codes, decimal, slice_index}
 use Rattle.model.specs.Refusals.{told}
 use Rattle.model.specs.Words.{had_by}
 use Rattle.model.specs.declared.calls.Answer.{Answer}
@@ -7,7 +7,9 @@ use Rattle.model.specs.declared.calls.Answer.TheVariants.{Accepted, Withdrawn, S
 use Rattle.model.specs.declared.calls.Call.{Call}
 use Rattle.model.specs.declared.calls.Call.TheVariants.{Release, Done, Request, Withdraw, Slack, Tick}
 use Rattle.model.specs.declared.calls.Who.{Who}
-use Rattle.forms.specs.Faults.{Fault, fault_words}
+use Rattle.forms.specs.Faults.{Fault}
+use Rattle.forms.specs.declared.faults.Layer.{Layer}
+use Rattle.forms.specs.declared.faults.Layer.TheVariants.{Letters, Forms, Sheet, Table}
 
 -- `(duty ROW response W)`
 abbrev pub duty_line : ℕ → ℕ → List ℕ
@@ -41,16 +43,33 @@ event_line clock call (SlackIs k) = []
 event_line clock call (Ticked slack who) = tick_line clock slack who
 event_line clock call (Refused why) = refused_line clock (slice_index (told why) 0) call
 
--- `(totals ACCEPTED SERVED WITHDRAWN WAITING)`
-abbrev pub totals_words : ℕ → ℕ → ℕ → ℕ → List ℕ
-totals_words accepted served withdrawn waiting =
-    codes "(totals "
-    ++ (decimal accepted
-    ++ (codes " " ++ (decimal served ++ (codes " " ++ (decimal withdrawn ++ (codes " " ++ (decimal waiting ++ codes ")")))))))
+-- `WITHDRAWN WAITING)`
+abbrev pub last_totals : ℕ → ℕ → List ℕ
+last_totals withdrawn waiting = decimal withdrawn ++ (codes " " ++ (decimal waiting ++ codes ")\n"))
 
+-- `(totals ACCEPTED SERVED WITHDRAWN WAITING)`
 abbrev pub totals_line : ℕ → ℕ → ℕ → ℕ → List ℕ
-totals_line accepted served withdrawn waiting = totals_words accepted served withdrawn waiting ++ codes "\n"
+totals_line accepted served withdrawn waiting =
+    codes "(totals " ++ (decimal accepted ++ (codes " " ++ (decimal served ++ (codes " " ++ last_totals withdrawn waiting))))
+
+-- `LINE BYTE`
+abbrev pub place_words : ℕ → ℕ → List ℕ
+place_words line byte = decimal line ++ (codes " " ++ decimal byte)
+
+abbrev pub layer_word : Layer → List ℕ
+layer_word Letters = codes "letters"
+layer_word Forms = codes "forms"
+layer_word Sheet = codes "sheet"
+layer_word Table = codes "table"
+
+-- The end of a fault's line: a row, if there is one, stands behind the layer.
+abbrev pub behind_layer : Option ℕ → List ℕ
+behind_layer None = codes ")\n"
+behind_layer (Some row) = codes " " ++ (decimal row ++ codes ")\n")
 
 -- `(fault NUMBER LINE BYTE LAYER)`, `(fault NUMBER LINE BYTE LAYER ROW)`
 abbrev pub fault_line : Fault → List ℕ
-fault_line f = fault_words f ++ codes "\n"
+fault_line f =
+    codes "(fault "
+    ++ (decimal f.number
+    ++ (codes " " ++ (place_words f.line f.byte ++ (codes " " ++ (layer_word f.layer ++ behind_layer f.row)))))

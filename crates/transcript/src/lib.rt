@@ -2,11 +2,17 @@
 #![tactic(auto)]
 
 mod arranging;
+mod faults;
 mod lines;
+mod pushing;
+mod room;
 mod running;
 mod scheduling;
+mod sizes;
 mod totals;
 mod transcripts;
 mod upcoming;
 
-pub use transcripts::{one_transcript, transcript};
+pub use room::Room;
+pub use sizes::{scripts_fit, sheets_fit};
+pub use transcripts::one_transcript;

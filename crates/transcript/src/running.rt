@@ -1,5 +1,5 @@
 // Scripts that are run over one of the two queues.
-ghost use Rattle.std.specs.Prelude.{◌≡◌, [], IfOk};
+ghost use Rattle.std.specs.Prelude.{◌≡◌, ◌≤◌, [], length, vec_capacity};
 ghost use Rattle.dispatcher.specs.Scripts.{calls_of, trace_of};
 ghost use Rattle.model.specs.Histories.{Chosen};
 ghost use Rattle.model.specs.Machine.{State};
@@ -8,12 +8,11 @@ ghost use Rattle.sheet.specs.Sheets.{set_by};
 ghost use Rattle.transcript.specs.Schedules.{script_of};
 ghost use Rattle.transcript.specs.Transcripts.{Ran, choice_of};
 
-use crate::scheduling::script;
+use crate::scheduling::push_script;
 use dispatcher::{Entry, run};
 use forms::QueueName;
 use queue::{ByWorth, FirstCome, Slot};
 use sheet::Sheet;
-use std::alloc::{AllocError, Global};
 use table::Setting;
 
 // The queue of a sheet has so many places.
@@ -37,14 +36,15 @@ fn answer_over(setting: Setting, queue: QueueName, script: &mut [Entry])
     }
 }
 
-// The script of a sheet, with the answers of its run.
-pub(crate) fn answered(heap: Global, sheet: Sheet) -> Result<Vec<Entry>, AllocError>
-    ensures runs { IfOk result (λ script. (end : State) × Ran (set_by sheet.entry).table (trace_of script.items) end) }
-    ensures chosen { IfOk result (λ script. Chosen (choice_of (set_by sheet.entry).queue) [] (trace_of script.items)) }
-    ensures calls { IfOk result (λ script. calls_of script.items ≡ script_of (set_by sheet.entry).ats (set_by sheet.entry).ticks) }
+// Makes the script of a sheet, with the answers of its run.
+pub(crate) fn answer(script: &mut Vec<Entry>, sheet: Sheet)
+    requires empty { script.old.items ≡ [] }
+    requires room { length (script_of (set_by sheet).ats (set_by sheet).ticks) ≤ vec_capacity script.old }
+    ensures runs { (end : State) × Ran (set_by sheet.entry).table (trace_of script.new.items) end }
+    ensures chosen { Chosen (choice_of (set_by sheet.entry).queue) [] (trace_of script.new.items) }
+    ensures calls { calls_of script.new.items ≡ script_of (set_by sheet.entry).ats (set_by sheet.entry).ticks }
 {
-    let mut script = script(heap, sheet.ats(), sheet.ticks())?;
+    push_script(script, sheet.ats(), sheet.ticks());
     let queue = sheet.queue();
-    answer_over(sheet.into_setting(), queue, script.as_mut_slice());
-    Ok(script)
+    answer_over(sheet.into_setting(), queue, script.as_mut_slice())
 }

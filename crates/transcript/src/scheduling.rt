@@ -1,5 +1,6 @@
-// The script of a sheet: at each clock the calls of its at-lines, and then the tick.
-ghost use Rattle.std.specs.Prelude.{◌≡◌, ◌++◌, map, IfOk, OnOk};
+// The script of a sheet: at each clock the calls of its at-lines, and then the tick. There is room for each entry, so none can be
+// left out.
+ghost use Rattle.std.specs.Prelude.{◌≡◌, ◌+◌, ◌≤◌, [], ◌++◌, length, map, vec_capacity};
 ghost use Rattle.std.specs.List.{flat_map};
 ghost use Rattle.dispatcher.specs.Scripts.{calls_of};
 ghost use Rattle.sheet.specs.Ats.{at_of, calls_of as calls_at};
@@ -12,49 +13,56 @@ use dispatcher::Entry;
 use list::OrderedList;
 use model::Call;
 use sheet::At;
-use std::alloc::{AllocError, Global};
+
+// The most at-lines that a sheet may have.
+const MOST_ATS: usize = 256;
 
 // Adds the calls of an at-line.
-fn push_calls(script: &mut Vec<Entry>, at: &At) -> Result<(), AllocError>
-    ensures { OnOk result (calls_of script.new.items ≡ calls_of script.old.items ++ calls_at (at_of at.now)) }
+fn push_calls(script: &mut Vec<Entry>, at: &At)
+    requires room { length (calls_of script.old.items ++ calls_at (at_of at.now)) ≤ vec_capacity script.old }
+    ensures calls { calls_of script.new.items ≡ calls_of script.old.items ++ calls_at (at_of at.now) }
+    ensures room { vec_capacity script.new ≡ vec_capacity script.old }
 {
     for call in at.calls() {
-        script.push(Entry::from(call))?;
+        script.push_reserved(Entry::from(call));
     }
-    Ok(())
 }
 
 // Adds the calls of the at-lines of a clock, which stand in front.
-fn push_due(script: &mut Vec<Entry>, upcoming: &mut Upcoming, clock: u32) -> Result<(), AllocError>
-    ensures calls { OnOk result (calls_of script.new.items ≡ calls_of script.old.items ++ flat_map calls_at (lines_of (due clock upcoming.old.line.now))) }
-    ensures rest { OnOk result (upcoming.new.line.now ≡ later clock upcoming.old.line.now) }
+fn push_due(script: &mut Vec<Entry>, upcoming: &mut Upcoming, clock: u32)
+    requires room { length (calls_of script.old.items ++ flat_map calls_at (lines_of (due clock upcoming.old.line.now))) ≤ vec_capacity script.old }
+    ensures calls { calls_of script.new.items ≡ calls_of script.old.items ++ flat_map calls_at (lines_of (due clock upcoming.old.line.now)) }
+    ensures rest { upcoming.new.line.now ≡ later clock upcoming.old.line.now }
+    ensures room { vec_capacity script.new ≡ vec_capacity script.old }
 {
     while let Some(at) = upcoming.next_due(clock) {
-        push_calls(script, &at)?;
+        push_calls(script, &at);
     }
-    Ok(())
 }
 
 // Goes through at-lines that stand in the order of their clocks, clock by clock.
-fn schedule(heap: Global, line: &[Timed], ticks: u32) -> Result<Vec<Entry>, AllocError>
-    requires { InOrder line.now }
-    ensures { IfOk result (λ script. calls_of script.items ≡ script_of (lines_of line.now) ticks) }
+fn schedule(script: &mut Vec<Entry>, line: &[Timed], ticks: u32)
+    requires in_order { InOrder line.now }
+    requires empty { script.old.items ≡ [] }
+    requires room { length (script_of (lines_of line.now) ticks) ≤ vec_capacity script.old }
+    ensures { calls_of script.new.items ≡ script_of (lines_of line.now) ticks }
 {
-    let mut script = Vec::new(heap);
     let mut upcoming = Upcoming { line };
     for clock in 0..ticks {
-        push_due(&mut script, &mut upcoming, clock)?;
-        script.push(Entry::from(Call::Tick))?;
+        push_due(script, &mut upcoming, clock);
+        script.push_reserved(Entry::from(Call::Tick));
     }
-    Ok(script)
 }
 
-// The script of at-lines that stand in the order of their lines. They are put in the order of their clocks first.
-pub(crate) fn script(heap: Global, ats: &[At], ticks: u32) -> Result<Vec<Entry>, AllocError>
-    ensures { IfOk result (λ script. calls_of script.items ≡ script_of (map at_of ats.now) ticks) }
+// Makes the script of at-lines that stand in the order of their lines. They are put in the order of their clocks first.
+pub(crate) fn push_script(script: &mut Vec<Entry>, ats: &[At], ticks: u32)
+    requires few { length ats.now ≤ 256 }
+    requires empty { script.old.items ≡ [] }
+    requires room { length (script_of (map at_of ats.now) ticks) ≤ vec_capacity script.old }
+    ensures { calls_of script.new.items ≡ script_of (map at_of ats.now) ticks }
 {
-    let mut slots = vec![in heap; Timed::default(); ats.len()]?;
-    let mut list = OrderedList::new(slots.as_mut_slice());
+    let mut slots = [Timed::default(); MOST_ATS];
+    let mut list = OrderedList::new(&mut slots);
     arrange(&mut list, ats);
-    schedule(heap, list.entries(), ticks)
+    schedule(script, list.entries(), ticks)
 }

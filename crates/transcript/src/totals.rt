@@ -1,13 +1,13 @@
 // What a run took in and gave out over all its errands.
-ghost use Rattle.std.specs.Prelude.{◌≡◌, ◌-◌, Some};
+ghost use Rattle.std.specs.Prelude.{◌≡◌, ◌+◌, ◌-◌, ◌≤◌, ◌++◌, string_bytes, string_capacity, string_len};
 ghost use Rattle.dispatcher.specs.Scripts.{trace_of};
 ghost use Rattle.model.specs.Totals.{total_accepted, total_served, total_withdrawn};
-ghost use Rattle.transcript.specs.Lines.{totals_words};
+ghost use Rattle.transcript.specs.Lines.{last_totals, totals_line};
 ghost use Rattle.transcript.specs.Renderings.{accepted_by, served_by, withdrawn_by};
 
+use crate::pushing::{push, push_total};
 use dispatcher::Entry;
 use model::{Answer, Call, Who};
-use std::fmt;
 
 // Units of accepted requests, ticks that errands had, and units that withdraws gave back. The sums are wide enough for
 // every script.
@@ -16,21 +16,6 @@ pub(crate) struct Totals {
     accepted: u128,
     served: u128,
     withdrawn: u128,
-}
-
-// The totals, and what waits in the end: what was accepted, and neither served nor withdrawn.
-impl fmt::Display for Totals {
-    ghost output = { λ t. Some (totals_words t.accepted t.served t.withdrawn (t.accepted - t.served - t.withdrawn)) };
-
-    fn fmt<W: fmt::Write>(&self, f: &mut fmt::Formatter<W>) -> fmt::Result {
-        let Totals {
-            accepted,
-            served,
-            withdrawn,
-        } = *self;
-        let waiting = accepted.saturating_sub(served).saturating_sub(withdrawn);
-        write!(f, "(totals {accepted} {served} {withdrawn} {waiting})")
-    }
 }
 
 fn accepted_by(entry: &Entry) -> u32
@@ -82,4 +67,35 @@ impl Totals {
             withdrawn,
         }
     }
+}
+
+// The last two totals, and the end of the line.
+fn push_last(out: &mut String, withdrawn: u128, waiting: u128)
+    requires room { string_len out.old + 84 ≤ string_capacity out.old }
+    ensures { string_bytes out.new ≡ string_bytes out.old ++ last_totals withdrawn waiting }
+{
+    push_total(out, withdrawn);
+    push(out, " ");
+    push_total(out, waiting);
+    push(out, ")\n");
+}
+
+// The totals, and what waits in the end: what was accepted, and neither served nor withdrawn.
+pub(crate) fn push_totals(out: &mut String, totals: Totals)
+    requires room { string_len out.old + 192 ≤ string_capacity out.old }
+    ensures { string_bytes out.new ≡ string_bytes out.old
+        ++ totals_line totals.accepted totals.served totals.withdrawn (totals.accepted - totals.served - totals.withdrawn) }
+{
+    let Totals {
+        accepted,
+        served,
+        withdrawn,
+    } = totals;
+    let waiting = accepted.saturating_sub(served).saturating_sub(withdrawn);
+    push(out, "(totals ");
+    push_total(out, accepted);
+    push(out, " ");
+    push_total(out, served);
+    push(out, " ");
+    push_last(out, withdrawn, waiting);
 }

@@ -1,44 +1,38 @@
-// What is printed of a text.
-ghost use Rattle.std.specs.Prelude.{◌≡◌, ◌++◌, IfOk, string_bytes, OnOk};
+// What a run prints.
+ghost use Rattle.std.specs.Prelude.{◌≡◌, ◌+◌, ◌*◌, ◌≤◌, [], ◌++◌, length, string_bytes, string_capacity, string_len, vec_capacity};
 ghost use Rattle.dispatcher.specs.Scripts.{trace_of};
 ghost use Rattle.sheet.specs.Sheets.{set_by};
 ghost use Rattle.transcript.specs.Renderings.{left_over, run_lines};
-ghost use Rattle.transcript.specs.Transcripts.{OneTranscript, Printed, Transcript};
+ghost use Rattle.transcript.specs.Schedules.{script_of};
+ghost use Rattle.transcript.specs.Transcripts.{OneTranscript, Transcript};
 
-use crate::lines::{write_duties, write_events};
-use crate::running::answered;
-use crate::totals::Totals;
+use crate::lines::{push_duties, push_events};
+use crate::running::answer;
+use crate::totals::{Totals, push_totals};
 use dispatcher::Entry;
-use sheet::{Sheet, read};
-use std::alloc::{AllocError, Global};
+use sheet::Sheet;
 
 // What happened in a run, and its totals.
-fn write_run(out: &mut String, script: &[Entry]) -> Result<(), AllocError>
-    ensures { OnOk result (string_bytes out.new ≡ string_bytes out.old ++ run_lines (trace_of script.now) (left_over (trace_of script.now))) }
+fn push_run(out: &mut String, script: &[Entry])
+    requires room { string_len out.old + 96 * length script.now + 192 ≤ string_capacity out.old }
+    ensures { string_bytes out.new ≡ string_bytes out.old ++ run_lines (trace_of script.now) (left_over (trace_of script.now)) }
 {
-    write_events(out, script)?;
-    writeln!(out, "{}", Totals::of(script))
+    push_events(out, script);
+    push_totals(out, Totals::of(script))
 }
 
-// The transcript of a sheet.
-fn sheet_text(heap: Global, sheet: Sheet) -> Result<String, AllocError>
-    ensures { IfOk result (λ out. Transcript (set_by sheet.entry) (string_bytes out)) }
+// The transcript of a sheet, made in an empty script and an empty text: at most 96 bytes for each of 16 rows and of the calls of
+// its script, and 192 for the totals.
+pub(crate) fn push_transcript(script: &mut Vec<Entry>, out: &mut String, sheet: Sheet)
+    requires no_calls { script.old.items ≡ [] }
+    requires no_text { string_bytes out.old ≡ [] }
+    requires calls { length (script_of (set_by sheet).ats (set_by sheet).ticks) ≤ vec_capacity script.old }
+    requires text { 96 * (16 + length (script_of (set_by sheet).ats (set_by sheet).ticks)) + 192 ≤ string_capacity out.old }
+    ensures { Transcript (set_by sheet.entry) (string_bytes out.new) }
 {
-    let mut out = String::new(heap);
-    write_duties(&mut out, sheet.setting())?;
-    let script = answered(heap, sheet)?;
-    write_run(&mut out, script.as_slice())?;
-    Ok(out)
-}
-
-// What is printed of a text: the transcript of the sheet that it is, or its fault.
-pub fn transcript(heap: Global, text: &[u8]) -> Result<String, AllocError>
-    ensures { IfOk result (λ out. Printed text.now (string_bytes out)) }
-{
-    match read(text) {
-        Ok(sheet) => sheet_text(heap, sheet),
-        Err(fault) => format!(in heap; "{fault}\n"),
-    }
+    push_duties(out, sheet.setting());
+    answer(script, sheet);
+    push_run(out, script.as_slice())
 }
 
 // What is printed of a text is settled by the text.

@@ -1,4 +1,4 @@
-use Rattle.std.proofs.Common.{◌≡◌}
+use Rattle.std.proofs.Common.{◌≡◌, vec_capacity}
 use Rattle.dispatcher.specs.Scripts.{calls_of}
 use Rattle.transcript.proofs.Clocks.{Ahead}
 use Rattle.transcript.specs.Schedules.{script_of}
@@ -8,5 +8,8 @@ use Rattle.transcript.proofs.scheduling.schedule.Given as goal
 -- The script up to this clock is made, and the at-lines from it on are ahead.
 abbrev pub invariant-loop-clock : goal.invariant-loop-clock
 invariant-loop-clock l =
-    (calls_of l.script.items ≡ script_of (lines_of l.line) l.clock)
-    × Ahead l.clock (lines_of l.line) l.upcoming.line.now
+    record {
+      so_far : calls_of l.script.items ≡ script_of (lines_of l.line) l.clock;
+      ahead : Ahead l.clock (lines_of l.line) l.upcoming.line.now;
+      room : vec_capacity l.script ≡ vec_capacity l.initial.script
+    }

@@ -5,7 +5,7 @@ use Rattle.transcript.specs.Lines.{event_line}
 use Rattle.transcript.specs.Renderings.{event_lines}
 use Rattle.transcript.proofs.Growing.{part_more}
 use Rattle.transcript.proofs.Rendered.{at_most_one, events_all, events_more}
-use Rattle.transcript.proofs.lines.write_events.Goals as goal
+use Rattle.transcript.proofs.lines.push_events.Goals as goal
 
 pub loop-entry-preserved : goal.loop-entry-preserved
 loop-entry-preserved c =
@@ -17,13 +17,17 @@ loop-entry-preserved c =
     let written = string_bytes c.loop-entry.out in
     let short : i < length script = omega arith in
     let moved = c.ticks_of-clock.ensures in
-    let (all, behind) = c.loop-entry.invariant in
     let more =
     events_more script i clock short
-    ∙ ap (λ (k : ℕ). line ++ event_lines (clock + k) (trace_of (drop (i + 1) script))) (sym moved) in (
-      part_more written line _ _ _ (ap (λ (bs : List ℕ). written ++ bs) (sym more) ∙ all) c.in_ok-write_event.ensures,
-      omega (arith, at_most_one e.answer, moved),
-    )
+    ∙ ap (λ (k : ℕ). line ++ event_lines (clock + k) (trace_of (drop (i + 1) script))) (sym moved) in
+    record {
+      all =
+          part_more written line _ _ _ (ap (λ (bs : List ℕ). written ++ bs) (sym more) ∙ c.loop-entry.invariant.all) c.push_event.ensures.bytes;
+      behind = omega (arith, at_most_one e.answer, moved, c.loop-entry.invariant.behind);
+      grown = omega (arith, c.push_event.ensures.grown, c.loop-entry.invariant.grown);
+      kept = omega (arith, c.push_event.ensures.kept, c.loop-entry.invariant.kept);
+    }
 
-pub returns : goal.returns
-returns c = events_all c.args.script.now c.loop-entry.entry-index c.loop-entry.clock _ _ (omega arith) c.loop-entry.invariant.0
+pub returns-clause-bytes : goal.returns-clause-bytes
+returns-clause-bytes c =
+    events_all c.args.script.now c.loop-entry.entry-index c.loop-entry.clock _ _ (omega arith) c.loop-entry.invariant.all

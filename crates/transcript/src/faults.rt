@@ -1,0 +1,58 @@
+// The line of a text that is no sheet.
+ghost use Rattle.std.specs.Prelude.{◌≡◌, ◌+◌, ◌≤◌, ◌++◌, length, string_bytes, string_capacity, string_len};
+ghost use Rattle.transcript.specs.Lines.{behind_layer, fault_line, layer_word, place_words};
+
+use crate::pushing::{push, push_number};
+use forms::{Layer, Report};
+
+fn layer_word(layer: Layer) -> &'static str
+    ensures word { result.now ≡ layer_word layer }
+    ensures short { length result.now ≤ 7 }
+{
+    match layer {
+        Layer::Letters => "letters",
+        Layer::Forms => "forms",
+        Layer::Sheet => "sheet",
+        Layer::Table => "table",
+    }
+}
+
+// A line and a byte.
+fn push_place(out: &mut String, line: usize, byte: usize)
+    requires room { string_len out.old + 41 ≤ string_capacity out.old }
+    ensures bytes { string_bytes out.new ≡ string_bytes out.old ++ place_words line byte }
+    ensures grown { string_len out.new ≤ string_len out.old + 41 }
+    ensures kept { string_capacity out.old ≤ string_capacity out.new }
+{
+    push_number(out, line as u64);
+    push(out, " ");
+    push_number(out, byte as u64);
+}
+
+// What stands behind the layer: the row, if there is one, and the end of the line.
+fn push_behind_layer(out: &mut String, row: Option<u32>)
+    requires room { string_len out.old + 23 ≤ string_capacity out.old }
+    ensures bytes { string_bytes out.new ≡ string_bytes out.old ++ behind_layer row }
+    ensures grown { string_len out.new ≤ string_len out.old + 23 }
+    ensures kept { string_capacity out.old ≤ string_capacity out.new }
+{
+    if let Some(row) = row {
+        push(out, " ");
+        push_number(out, u64::from(row));
+    }
+    push(out, ")\n");
+}
+
+// A fault, in a line.
+pub(crate) fn push_fault(out: &mut String, fault: &Report)
+    requires room { string_len out.old + 192 ≤ string_capacity out.old }
+    ensures { string_bytes out.new ≡ string_bytes out.old ++ fault_line fault.now }
+{
+    push(out, "(fault ");
+    push_number(out, u64::from(fault.number));
+    push(out, " ");
+    push_place(out, fault.line, fault.byte);
+    push(out, " ");
+    push(out, layer_word(fault.layer));
+    push_behind_layer(out, fault.row);
+}
