@@ -7,3 +7,8 @@ pub mod Earliest
 mod Joining
 mod Lookups
 mod Meanings
+mod Scripts
+pub mod Naming
+mod Telling
+mod Turned
+pub mod Waiting

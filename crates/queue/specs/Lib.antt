@@ -1,3 +1,4 @@
+pub mod Answering
 pub mod Arrivals
 pub mod Best
 pub mod Lines
