@@ -4,3 +4,4 @@ pub mod Judgements
 pub mod Lined
 pub mod Printed
 pub mod Punctual
+pub mod Tables

@@ -1,5 +1,6 @@
 pub mod Balanced
 pub mod Clocks
+mod Existence
 pub mod Growing
 pub mod Inserting
 pub mod Rendered

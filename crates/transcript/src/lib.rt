@@ -2,6 +2,7 @@
 #![tactic(auto)]
 
 mod arranging;
+mod laws;
 mod lines;
 mod running;
 mod scheduling;
@@ -9,4 +10,5 @@ mod totals;
 mod transcripts;
 mod upcoming;
 
+pub use laws::exactly_one_transcript;
 pub use transcripts::{one_transcript, transcript};
