@@ -1,4 +1,5 @@
 mod After
+mod Answering
 mod Arising
 mod Best
 mod Calling
@@ -7,8 +8,9 @@ pub mod Earliest
 mod Joining
 mod Lookups
 mod Meanings
-mod Scripts
 pub mod Naming
+mod Scripts
+pub mod Standing
 mod Telling
 mod Turned
-pub mod Waiting
+mod Waiting

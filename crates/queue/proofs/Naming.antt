@@ -5,7 +5,8 @@ use Rattle.std.proofs.ByRecursion.{All-weaker}
 use Rattle.std.proofs.lemmas.Bool.{cond_both}
 use Rattle.model.specs.Queues.{look, names_right}
 use Rattle.model.specs.declared.errands.Errand.{Errand}
-use Rattle.queue.specs.Answering.{NamesRight, waiting_of}
+use Rattle.queue.proofs.Standing.{NamesRight}
+use Rattle.queue.proofs.Waiting.{waiting_of}
 use Rattle.queue.specs.Arrivals.{Arrival, Rated, arrived, best_from, best_of, best_rated, better, earliest, first_of, rated}
 use Rattle.queue.proofs.Changing.{look_first}
 

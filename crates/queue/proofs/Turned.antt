@@ -1,5 +1,5 @@
--- Errands of which the one of a number is turned into another of its number, or is gone: what then looks up among them, and that
--- each still waits once.
+-- What looks up among errands of which the one of a number was turned into another of its number, or went, or which another joined, and
+-- that each still waits once.
 use Rattle.std.proofs.Common.{◌≡◌, ℕ, suc, pred, ◌≤◌, true, false, cond, eqb, leb, List, [], ◌∷◌, ◌++◌, length, Some, None, Option, sym, refl, ap, ◌∙◌, subst, ⊎_elim, arith}
 use Rattle.std.specs.List.{cons_option, filter_map}
 use Rattle.std.proofs.lemmas.Bool.{cases_Bool, cases_eq, cond-false, cond-true, eq-eqb, ne_eqb}
@@ -9,24 +9,24 @@ use Rattle.model.specs.declared.errands.Errand.{Errand}
 use Rattle.queue.proofs.Changing.{look_first, none_apart, none_behind, none_past}
 use Rattle.queue.proofs.Lookups.{FirstOnce, first_once, once_more}
 
--- An errand that waits may turn into this one: it has its number, and is within its limits.
+-- The errand e' may wait in the place of e: it has its number, and is within its limits.
 pub record Remains (e e' : Errand) : Type 0 where
   pub number : e'.number ≡ e.number
   pub within : errand_within e' ≡ true
 
--- What a turn makes of each errand within its limits.
-abbrev pub Turns : (Errand → Option Errand) → Type 0
-Turns f = (e e' : Errand) → errand_within e ≡ true → f e ≡ Some e' → Remains e e'
+-- What is made of an errand within its limits, if it does not go, is such.
+abbrev pub KeepsNumber : (Errand → Option Errand) → Type 0
+KeepsNumber f = (e e' : Errand) → errand_within e ≡ true → f e ≡ Some e' → Remains e e'
 
 -- The errand of the number n is turned.
 abbrev pub turned : (Errand → Option Errand) → ℕ → Errand → Option Errand
 turned f n e = cond (eqb e.number n) (f e) (Some e)
 
-pub goes : Turns (λ _. None)
-goes e e' within is = cc
+pub none_keeps : KeepsNumber (λ _. None)
+none_keeps e e' within is = cc
 
-pub lessens : Turns one_less
-lessens e e' within is =
+pub less_keeps : KeepsNumber one_less
+less_keeps e e' within is =
     let less : Errand = record { number = e.number; units = pred e.units; worth = e.worth } in
     ⊎_elim
     (λ last. let none : None ≡ Some e' = sym (cond-true _ _ _ last) ∙ is in cc)
@@ -37,7 +37,7 @@ lessens e e' within is =
     subst (Remains e) same (record { number = refl; within = fits }))
     (cases_Bool (leb e.units 1))
 
--- Fewer errands than before.
+-- They are no more than before.
 at_most : {A : Type 0} (o : Option A) (xs : List A) → length (cons_option o xs) ≤ suc (length xs)
 at_most None xs = omega arith
 at_most (Some x) xs = omega arith
@@ -70,7 +70,7 @@ module _ (f : Errand → Option Errand) (n : ℕ) where
       filter_map (turned f n) (e ∷ es) ≡ e ∷ filter_map (turned f n) es
   other_first e es apart = ap (λ o. cons_option o (filter_map (turned f n) es)) (turned_other e apart)
 
-  module _ (turns : Turns f) where
+  module _ (turns : KeepsNumber f) where
     -- What one errand turned into, in front of others.
     look_own : (e : Errand) (es : List Errand) (o : Option Errand) → f e ≡ o → FirstOnce e es
         → look (cons_option o es) e.number ≡ o

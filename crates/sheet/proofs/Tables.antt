@@ -17,7 +17,7 @@ use Rattle.sheet.specs.Orders.{SoFar, line_judged, lines_judged, nothing_read, s
 use Rattle.sheet.specs.Sheets.{Set, late, missing_line, of_lines, over, sheet_of, too_long, whole}
 use Rattle.sheet.proofs.Judgements.{judged_value}
 
--- What an insertion that is not refused says.
+-- Where nothing refuses, no test of a refusal holds.
 passed : (b : Bool) (n : ℕ) (rest : List ℕ) → cond b (n ∷ []) rest ≡ [] → (b ≡ false) × (rest ≡ [])
 passed true n rest e = cc
 passed false n rest e = (refl, e)
@@ -26,6 +26,7 @@ none_late : (o : Option ℕ) → unschedulable o ≡ [] → is_some o ≡ false
 none_late None e = refl
 none_late (Some row) e = cc
 
+-- What an addition to an admitted table leaves is admitted.
 module _ (table : List Duty) (place : ℕ) (d : Duty) (ok : admitted table ≡ true) where
   inserted_few : place ≤ length table → length table < 16 → length (insert table place d) ≤ 16
   inserted_few near room = omega (arith, length-insert table place d near)
@@ -36,13 +37,15 @@ module _ (table : List Duty) (place : ℕ) (d : Duty) (ok : admitted table ≡ t
       let good = passed _ 2 _ near.1 in
       let room = passed _ 3 _ good.1 in
       let within = within_inserted table place d (admitted_says table ok).within (not-false _ good.0) in
-      and_from _ _ (and_from _ _ (le-leb _ _ (inserted_few (ltb-false _ _ near.0) (leb-false _ _ room.0))) within) (not_from_false _ (none_late _ room.1))
+      let few = inserted_few (ltb-false _ _ near.0) (leb-false _ _ room.0) in
+      and_from _ _ (and_from _ _ (le-leb _ _ few) within) (not_from_false _ (none_late _ room.1))
 
   after_admitted : (r : List ℕ) → add_refusal table place d ≡ r
       → admitted (elim r as (λ x. List Duty) [ [] ↦ insert table place d | ◌∷◌ n ns ↦ table ]) ≡ true
   after_admitted [] accepted = accepted_admitted accepted
   after_admitted (n ∷ ns) refused = ok
 
+-- So is the table after each line,
 said_admitted : (s : SoFar) (l : Line) (said : Said) → admitted s.table ≡ true → admitted (with_said s l said).table ≡ true
 said_admitted s l Sheet ok = ok
 said_admitted s l (AddDuty place d) ok = after_admitted s.table place d ok (add_refusal s.table place d) refl
@@ -51,7 +54,7 @@ said_admitted s l (At clock) ok = ok
 said_admitted s l (End ticks) ok = ok
 said_admitted s l Remark ok = ok
 
--- Through every line.
+-- and after all of them.
 one_admitted : (t : SoFar) (ls : List Line) (r : Result SoFar Fault) (u : SoFar)
     → ((v : SoFar) → r ≡ Ok v → v ≡ u)
     → admitted u.table ≡ true

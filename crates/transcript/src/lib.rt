@@ -10,5 +10,5 @@ mod totals;
 mod transcripts;
 mod upcoming;
 
-pub use laws::exactly_one_transcript;
+pub use laws::{every_script_runs, exactly_one_transcript};
 pub use transcripts::{one_transcript, transcript};
