@@ -1,4 +1,5 @@
 mod After
+mod Answering
 mod Arising
 mod Best
 mod Calling
@@ -8,3 +9,9 @@ mod Joining
 pub mod Leaving
 mod Lookups
 mod Meanings
+pub mod Naming
+mod Scripts
+pub mod Standing
+mod Telling
+mod Turned
+mod Waiting

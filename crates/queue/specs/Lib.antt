@@ -4,5 +4,6 @@ pub mod Lines
 pub mod Orders
 pub mod Ranks
 pub mod Ratings
+pub mod Scripts
 pub mod Slots
 pub mod Untouched

@@ -4,12 +4,14 @@ use Rattle.std.proofs.lemmas.Bool.{and_cases, and_from, and_left, and_right, and
 use Rattle.std.proofs.lemmas.Bool.Decides.{nat_tests}
 use Rattle.model.specs.Table.{add_refusal}
 use Rattle.model.specs.declared.duties.Duty.{Duty}
-use Rattle.forms.specs.Faults.{Fault, Layer, Letters, Forms, Sheet as SheetLayer, fault, unless}
+use Rattle.forms.specs.Faults.{Fault, fault, unless}
 use Rattle.forms.specs.Forms.{is_form, is_remark}
 use Rattle.forms.specs.Grammar.{all_of}
 use Rattle.forms.specs.Items.{further, numbers_fit}
 use Rattle.forms.specs.Lines.{Line, allowed, bad_letter, next_byte}
 use Rattle.forms.specs.Sayings.{end_fits, fault_12, fault_13, fault_14, fault_15, forms_faults, letters_faults, said, says}
+use Rattle.forms.specs.declared.faults.Layer.{Layer}
+use Rattle.forms.specs.declared.faults.Layer.TheVariants.{Letters, Forms, Sheet as SheetLayer}
 use Rattle.forms.specs.declared.faults.Place.{Place}
 use Rattle.forms.specs.declared.sayings.Said.{Said}
 use Rattle.forms.specs.declared.sayings.Said.TheVariants.{Sheet, Duty as AddDuty, Queue, At, End, Remark}

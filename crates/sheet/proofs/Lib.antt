@@ -9,3 +9,4 @@ pub mod Lined
 pub mod Punctual
 pub mod Ruled
 pub mod Small
+pub mod Tables

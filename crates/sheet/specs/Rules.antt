@@ -3,12 +3,14 @@
 use Rattle.std.specs.Prelude.{◌≡◌, ℕ, ◌<◌, ◌≤◌, true, false, ◌⊎◌, ◌↔◌, List, [], ◌∷◌, ◌++◌, length, None, Ok, Err}
 use Rattle.model.specs.Table.{add_refusal}
 use Rattle.model.specs.declared.duties.Duty.{Duty}
-use Rattle.forms.specs.Faults.{Fault, Layer, Letters, Forms, Sheet as SheetLayer, Table, fault}
+use Rattle.forms.specs.Faults.{Fault, fault}
 use Rattle.forms.specs.Forms.{is_form, is_remark}
 use Rattle.forms.specs.Grammar.{all_of}
 use Rattle.forms.specs.Items.{further, numbers_fit}
 use Rattle.forms.specs.Lines.{Line, allowed, first_place, lines}
 use Rattle.forms.specs.Sayings.{said, says}
+use Rattle.forms.specs.declared.faults.Layer.{Layer}
+use Rattle.forms.specs.declared.faults.Layer.TheVariants.{Letters, Forms, Sheet as SheetLayer, Table}
 use Rattle.forms.specs.declared.sayings.Said.{Said}
 use Rattle.forms.specs.declared.sayings.Said.TheVariants.{Duty as AddDuty, At, End}
 use Rattle.sheet.specs.Orders.{SoFar, in_order, nothing_read, with_said}

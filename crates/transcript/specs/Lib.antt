@@ -1,3 +1,4 @@
+pub mod Existence
 pub mod Lines
 pub mod Renderings
 pub mod Schedules

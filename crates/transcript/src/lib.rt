@@ -3,6 +3,7 @@
 
 mod arranging;
 mod faults;
+mod laws;
 mod lines;
 mod pushing;
 mod room;
@@ -13,6 +14,7 @@ mod totals;
 mod transcripts;
 mod upcoming;
 
+pub use laws::{every_script_runs, exactly_one_transcript};
 pub use room::Room;
 pub use sizes::{scripts_fit, sheets_fit};
 pub use transcripts::one_transcript;
