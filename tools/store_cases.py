@@ -106,7 +106,7 @@ faulty(14, first_line=at(0, "(sheet 2)"), middle_line=at(3, "(queue last)"), las
        number_missing=at(1, "(duty 0 1 4)"), number_too_many=at(1, "(duty 0 1 4 4 4)"), word_for_number=at(1, "(duty a 1 4 4)"),
        form_for_number=at(1, "(duty (a) 1 4 4)"), no_call=at(4, "(at 0)"), call_not_known=at(4, "(at 0 (tick))"), call_short=at(4, "(at 0 (request 7 3))"),
        second_call_wrong=at(4, "(at 0 (release 0) (done))"), word_for_call=at(4, "(at 0 release)"), remarks=at(3, "(remarks a)"),
-       sheet_0=at(0, "(sheet 0)"), form_nests_16_deep=at(3, "(a " * 16 + "1" + ")" * 16))
+       sheet_0=at(0, "(sheet 0)"), sheet_4294967297=at(0, "(sheet 4294967297)"), form_nests_16_deep=at(3, "(a " * 16 + "1" + ")" * 16))
 faulty(15, first_line_eleven_digits=at(0, "(sheet 00000000001)"), middle_line_4294967296=at(2, "(duty 1 2 6 4294967296)"), last_line_end_10001=at(-1, "(end 10001)"),
        last_line_end_largest=at(-1, "(end 4294967295)"), eleven_digits=at(1, "(duty 0 1 4 00000000004)"), in_a_call=at(4, "(at 0 (request 7 3 9999999999))"),
        of_a_clock=at(4, "(at 4294967296 (release 0))"), second_of_two=at(1, "(duty 0 1 4 4)", at(2, "(duty 1 2 4294967296 4294967297)")))
@@ -339,6 +339,30 @@ valid("refused_while_full", ["(sheet 1)", "(queue worth)", FULL,
 valid("places_taken", ["(sheet 1)", "(queue first)", "(at 0 %s)" % " ".join("(request %d 2 %d)" % (n, n % 5) for n in range(66)),
                        "(at 2 (request 70 1 1) (request 71 1 1))", "(at 3 (withdraw 40) (request 72 1 1) (request 73 1 1))", "(end 8)"],
       [(0, 10, "request"), (0, 10, "request"), (2, 10, "request"), (3, 10, "request")])
+
+
+# ---- Numbers of every length in each field that is printed.
+
+NUMBERS = [int("1234567890"[:digits]) for digits in range(1, 11)]
+valid("numbers_of_errands", ["(sheet 1)", "(queue first)"]
+      + ["(at 0 (request %d 1 0))" % n for n in NUMBERS + [0, 9, 10, 65535, 65536, 999999999, 1000000000, 4294967294, 4294967295]] + ["(end 20)"])
+valid("numbers_of_units", ["(sheet 1)", "(duty 0 1 1 1)", "(queue worth)"]
+      + ["(at %d (release 0) (request %d %d %d) (withdraw %d))" % (clock, clock, units, units, clock - clock % 2)
+         for clock, units in enumerate([1, 9, 10, 99, 100, 999, 1000, 4096])] + ["(end 8)"])
+valid("units_of_65536", ["(sheet 1)", "(duty 0 1 1 1)", "(queue first)",
+                         "(at 0 (release 0) %s)" % " ".join("(request %d 4096 1)" % n for n in range(16)), "(end 1)"])
+valid("units_of_65536_withdrawn", ["(sheet 1)", "(duty 0 1 1 1)", "(queue worth)",
+                                   "(at 0 (release 0) %s %s)" % (" ".join("(request %d 4096 1)" % n for n in range(16)),
+                                                                " ".join("(withdraw %d)" % n for n in range(16))), "(end 1)"])
+valid("responses_and_slacks", ["(sheet 1)", "(duty 0 5 4096 4096)", "(duty 1 20 4096 4096)", "(duty 2 400 4096 4096)", "(duty 3 3000 4096 4096)", "(queue first)",
+                               "(at 0 (release 3) (request 1 4096 1))", "(end 680)"])
+valid("slacks_of_four_digits", ["(sheet 1)", "(duty 0 5 4096 4096)", "(queue first)", "(at 0 (release 0) (request 1 4096 1))", "(end 3)"])
+valid("refused_late", HEAD + ["(queue first)"] + ["(at %d (withdraw %d))" % (clock, clock) for clock in (0, 9, 10, 99, 100, 999, 1000, 9999)] + ["(end 10000)"],
+      [(clock, 11, "withdraw") for clock in (0, 9, 10, 99, 100, 999, 1000, 9999)])
+for line in (9, 10, 99, 100, 999, 1000, 1001, 3000):
+    faulty(13, **{"line_%d" % line: ["(sheet 1)"] + [REMARK] * (line - 2) + ["(remark", "(end 0)"]})
+faulty(12, byte_32765=text_of(sized(32766, ""))[:-1] + b"\x7f\n")
+assert reckon(CASES["fault_12_byte_32765"]).split()[3] == "32765", reckon(CASES["fault_12_byte_32765"])
 
 
 def main():

@@ -3,6 +3,7 @@
 
 mod arranging;
 mod faults;
+mod input;
 mod laws;
 mod lines;
 mod pushing;
@@ -14,6 +15,7 @@ mod totals;
 mod transcripts;
 mod upcoming;
 
+pub use input::read_input;
 pub use laws::{every_script_runs, exactly_one_transcript};
 pub use room::Room;
 pub use sizes::{scripts_fit, sheets_fit};

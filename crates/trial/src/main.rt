@@ -3,17 +3,12 @@
 #![tactic(auto)]
 
 use std::io;
-use std::io::Read;
-use transcript::Room;
-
-// One byte more than a sheet may have: what is longer need not be read to its end.
-const MOST_READ: u64 = 32769;
+use transcript::{Room, read_input};
 
 fn main(rt: HostRuntime) -> io::Result<()> {
     let heap = rt.alloc();
     let room = Room::new(heap)?;
-    let mut text = Vec::new(heap);
-    rt.stdin().take(MOST_READ).read_to_end(&mut text)?;
+    let text = read_input(heap, rt.stdin())?;
     let out = room.transcript(text.as_slice());
     print!(rt; "{out}")
 }

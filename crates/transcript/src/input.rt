@@ -1,0 +1,19 @@
+// What is read of an input before a sheet is made of it.
+ghost use Rattle.std.specs.Prelude.{◌≡◌, take, vec_items, IfOk, IfSome};
+
+use std::alloc::Global;
+use std::io;
+use std::io::Read;
+
+// One byte more than a sheet may have: an input with so many bytes is too long, whatever follows them.
+const MOST_READ: u64 = 32769;
+
+/// Reads an input: all its bytes, or the first 32,769 of a longer one, which is then known to be no sheet. Ends with the error of a
+/// read that fails, and with one where memory runs out.
+pub fn read_input<R: Read + Drop>(heap: Global, input: R) -> io::Result<Vec<u8>>
+    ensures { IfOk result (λ text. IfSome (R.remaining input) (λ bytes. text.items ≡ take 32769 bytes)) }
+{
+    let mut text = Vec::new(heap);
+    input.take(MOST_READ).read_to_end(&mut text)?;
+    Ok(text)
+}
