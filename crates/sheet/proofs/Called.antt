@@ -1,18 +1,16 @@
 -- The at-lines of a sheet: their calls stand in the text, and come before the end.
-use Rattle.std.proofs.Common.{◌≡◌, ℕ, suc, ◌+◌, ◌<◌, Bool, true, false, cond, ◌&&◌, ltb, List, [], ◌∷◌, ◌++◌, length, take, drop, is_some, Some, None, Ok, Err, Option, Result, unwrap_or, sym, refl, ap, ◌∙◌, subst, ⊎_elim, arith, length-append}
+use Rattle.std.proofs.Common.{◌≡◌, ℕ, suc, ◌+◌, ◌<◌, Bool, true, false, cond, ◌&&◌, ltb, List, [], ◌∷◌, ◌++◌, length, take, drop, is_some, Some, None, Ok, Option, unwrap_or, sym, refl, ap, ◌∙◌, subst, ⊎_elim, arith, length-append}
 use Rattle.std.specs.List.{flat_map, AllByRecursion}
 use Rattle.std.specs.Option.{option_map}
 use Rattle.std.proofs.ByRecursion.{All-push}
 use Rattle.std.proofs.lemmas.List.{append_assoc, drop_at, drop-take, take_at}
 use Rattle.std.proofs.lemmas.Bool.{and_parts, cases_Bool, cond-true, ltb-true}
 use Rattle.model.specs.declared.calls.Call.{Call}
-use Rattle.forms.specs.Faults.{Fault, fault, unless}
 use Rattle.forms.specs.Forms.{is_remark}
 use Rattle.forms.specs.Items.{inside, is_number, items, numbers}
 use Rattle.forms.specs.Laws.{Follow, behind, with_end}
 use Rattle.forms.specs.Lines.{Line, first_place, lines}
-use Rattle.forms.specs.Sayings.{all_calls, at_said, call, duty_said, end_said, forms_faults, letters_faults, queue_said, said, said_by_items, says, sheet_of_numbers, some_calls}
-use Rattle.forms.specs.declared.faults.Layer.TheVariants.{Sheet as SheetLayer}
+use Rattle.forms.specs.Sayings.{all_calls, at_said, call, duty_said, end_said, queue_said, said, said_by_items, says, sheet_of_numbers, some_calls}
 use Rattle.forms.specs.declared.faults.Place.{Place}
 use Rattle.forms.specs.declared.sayings.QueueName.TheVariants.{First, Worth}
 use Rattle.forms.specs.declared.sayings.Said.{Said}
@@ -20,9 +18,9 @@ use Rattle.forms.specs.declared.sayings.Said.TheVariants.{Sheet, Duty as AddDuty
 use Rattle.forms.proofs.Apart.{taken_apart}
 use Rattle.sheet.specs.Ats.{AtLine, behind_first, calls_in}
 use Rattle.sheet.specs.Laws.{CallsStand, Holds, SheetsHold}
-use Rattle.sheet.specs.Orders.{SoFar, at_line, line_judged, lines_judged, nothing_read, sheet_faults, table_faults, with_said}
-use Rattle.sheet.specs.Sheets.{Set, late, missing_line, of_lines, over, too_long, whole}
-use Rattle.sheet.proofs.Judgements.{judged_rest, judged_value, none_first}
+use Rattle.sheet.specs.Orders.{SoFar, at_line, line_judged, nothing_read, with_said}
+use Rattle.sheet.specs.Sheets.{late}
+use Rattle.sheet.proofs.Kept.{lines_keep, read_whole, taken_up}
 
 -- A line stands in the text at its place.
 abbrev Stands : List ℕ → Line → Type 0
@@ -141,25 +139,16 @@ with_calls text s l (AtClock clock) all new = All-push (CallsStand text) s.ats (
 with_calls text s l (End ticks) all new = all
 with_calls text s l Remark all new = all
 
-module _ (text : List ℕ) (t : SoFar) where
-  one_line : (ls : List Line) (s : SoFar) (l : Line) (r : Result SoFar Fault) → line_judged s l ≡ r → Stands text l
-      → AllByRecursion (CallsStand text) s.ats
-      → ((u : SoFar) → AllByRecursion (CallsStand text) u.ats → lines_judged u ls ≡ Ok t → AllByRecursion (CallsStand text) t.ats)
-      → elim r as (λ x. Result SoFar Fault) [ Ok u ↦ lines_judged u ls | Err f ↦ Err f ] ≡ Ok t
-      → AllByRecursion (CallsStand text) t.ats
-  one_line ls s l (Ok u) judged stands all next e =
-      let is : u ≡ with_said s l (says l) = judged_value (with_said s l (says l)) u (letters_faults l ++ forms_faults l ++ sheet_faults s l ++ table_faults s l) u (sym judged) in
-      next u
-      (subst (λ (v : SoFar). AllByRecursion (CallsStand text) v.ats) (sym is)
-      (with_calls text s l (says l) all (λ clock e. line_calls text l clock stands e)))
-      e
-  one_line ls s l (Err f) judged stands all next e = cc
+-- With lines still to come that stand in the text, the calls of the at-lines so far stand there.
+abbrev Standing : List ℕ → List Line → SoFar → Type 0
+Standing text ls s = AllByRecursion (Stands text) ls × AllByRecursion (CallsStand text) s.ats
 
-  lines_keep : (ls : List Line) (s : SoFar) → AllByRecursion (Stands text) ls → AllByRecursion (CallsStand text) s.ats → lines_judged s ls ≡ Ok t
-      → AllByRecursion (CallsStand text) t.ats
-  lines_keep [] s stands all e = let same : s ≡ t = cc in subst (λ (v : SoFar). AllByRecursion (CallsStand text) v.ats) same all
-  lines_keep (l ∷ ls) s stands all e =
-      one_line ls s l (line_judged s l) refl stands.0 all (λ u all-u e-u. lines_keep ls u stands.1 all-u e-u) e
+one_more : (text : List ℕ) (s u : SoFar) (l : Line) (ls : List Line) → line_judged s l ≡ Ok u → Standing text (l ∷ ls) s → Standing text ls u
+one_more text s u l ls judged ((here, rest), called) = (
+  rest,
+  subst (λ (v : SoFar). AllByRecursion (CallsStand text) v.ats) (sym (taken_up s u l judged).adds)
+      (with_calls text s l (says l) called (λ clock e. line_calls text l clock here e)),
+)
 
 -- No at-line is late.
 on_time : (ticks : ℕ) (ats : List AtLine) → late ticks ats ≡ None → AllByRecursion (λ (a : AtLine). a.clock < ticks) ats
@@ -170,20 +159,6 @@ on_time ticks (a ∷ later) e =
     (λ over. let no = rw over at e in cc)
     (cases_Bool (ltb a.clock ticks))
 
-whole_holds : (text : List ℕ) (missing : Place) (s : SoFar) (set : Set) → AllByRecursion (CallsStand text) s.ats → whole missing s ≡ Ok set
-    → Holds text set
-whole_holds text missing s set all e =
-    let made : Set = record { table = s.table; queue = s.queue; ats = s.ats; ticks = s.ticks } in
-    let ended = unless (over s.stage) (fault 16 SheetLayer missing) in
-    let is : set ≡ made = judged_value made set (ended ∷ late s.ticks s.ats ∷ []) set (sym e) in
-    let none = none_first [] (late s.ticks s.ats) made set (judged_rest made (ended ∷ []) (late s.ticks s.ats ∷ []) set (sym e)) in
-    subst (Holds text) (sym is) (record { called = all; before_end = on_time s.ticks s.ats none })
-
-lines_hold : (text : List ℕ) (missing : Place) (set : Set) (r : Result SoFar Fault)
-    → ((s : SoFar) → r ≡ Ok s → AllByRecursion (CallsStand text) s.ats) → of_lines missing r ≡ Ok set → Holds text set
-lines_hold text missing set (Ok s) called e = whole_holds text missing s set (called s refl) e
-lines_hold text missing set (Err f) called e = cc
-
 -- Every line of a text stands in it.
 text_stands : (text : List ℕ) → AllByRecursion (Stands text) (lines first_place text)
 text_stands text =
@@ -191,15 +166,8 @@ text_stands text =
     subst (λ (xs : List ℕ). AllByRecursion (Stands xs) (lines first_place text)) made.whole
     (stand [] first_place (lines first_place text) refl made.follow)
 
-unless_long : (text : List ℕ) (set : Set) (o : Option Fault) (r : Result Set Fault) → (r ≡ Ok set → Holds text set)
-    → elim o as (λ x. Result Set Fault) [ Some f ↦ Err f | None ↦ r ] ≡ Ok set → Holds text set
-unless_long text set (Some f) r holds e = cc
-unless_long text set None r holds e = holds e
-
 pub sheets_hold : SheetsHold
 sheets_hold text set e =
-    unless_long text set (too_long text) (of_lines (missing_line text) (lines_judged nothing_read (lines first_place text)))
-    (λ judged.
-    lines_hold text (missing_line text) set (lines_judged nothing_read (lines first_place text))
-    (λ s e-s. lines_keep text s (lines first_place text) nothing_read (text_stands text) tt e-s) judged)
-    e
+    let read = read_whole text set e in
+    let standing = lines_keep (Standing text) (one_more text) (lines first_place text) nothing_read read.last (text_stands text, tt) read.lines in
+    subst (Holds text) (sym read.is) (record { called = standing.1; before_end = on_time read.last.ticks read.last.ats read.in_time })

@@ -55,17 +55,19 @@ pub record ReadWhole (text : List ℕ) (set : Set) : Type 0 where
   pub last : SoFar
   pub lines : lines_judged nothing_read (lines first_place text) ≡ Ok last
   pub is : set ≡ record { table = last.table; queue = last.queue; ats = last.ats; ticks = last.ticks }
+  pub in_time : late last.ticks last.ats ≡ None
 
 read_lines : (text : List ℕ) (set : Set) (missing : Place) (r : Result SoFar Fault) → length text ≤ 32768
     → lines_judged nothing_read (lines first_place text) ≡ r → of_lines missing r ≡ Ok set → ReadWhole text set
 read_lines text set missing (Ok s) short judged e =
+    let made : Set = record { table = s.table; queue = s.queue; ats = s.ats; ticks = s.ticks } in
+    let faults = unless (over s.stage) _ ∷ late s.ticks s.ats ∷ [] in
     record {
       short = short;
       last = s;
       lines = judged;
-      is =
-          judged_value (record { table = s.table; queue = s.queue; ats = s.ats; ticks = s.ticks }) set
-          (unless (over s.stage) _ ∷ late s.ticks s.ats ∷ []) set (sym e);
+      is = judged_value made set faults set (sym e);
+      in_time = (no_faults faults made set e).1.0;
     }
 read_lines text set missing (Err f) short judged e = cc
 

@@ -1,5 +1,5 @@
 -- A line that says something, at its place in the sheet: what each layer above the forms makes of it.
-use Rattle.std.proofs.Common.{◌≡◌, Bool, true, false, List, [], ◌∷◌, ◌++◌, None, Ok, Err, Option, sym, refl, ap, ◌∙◌}
+use Rattle.std.proofs.Common.{◌≡◌, true, false, List, [], ◌∷◌, ◌++◌, Ok, Err, Option, sym, ap, ◌∙◌}
 use Rattle.forms.specs.Faults.{Fault, fault, judged, unless}
 use Rattle.forms.specs.Lines.{Line}
 use Rattle.sheet.specs.Orders.{SoFar, fault_16, fault_17, has_room, in_order, line_judged, order_judged, said_judged, sheet_faults, table_faults, with_said}
@@ -7,11 +7,7 @@ use Rattle.forms.specs.Sayings.{form_judged, forms_faults, letters_faults, says}
 use Rattle.forms.specs.declared.faults.Layer.TheVariants.{Sheet as SheetLayer}
 use Rattle.forms.specs.declared.sayings.Said.{Said}
 use Rattle.sheet.proofs.Judgements.{judged_after, judged_rest, judged_value, none_first}
-
--- A test that gives no fault has passed.
-passed : (t : Bool) (f : Fault) → unless t f ≡ None → t ≡ true
-passed true f e = refl
-passed false f e = cc
+use Rattle.sheet.proofs.Kept.{passed}
 
 -- The faults of order, for what is said.
 abbrev order_faults : SoFar → Line → Said → List (Option Fault)
