@@ -1,9 +1,10 @@
 -- The end line of lines without a fault, and the first at-line that is not before it.
 use Rattle.std.proofs.Common.{◌≡◌, ℕ, ◌<◌, ◌≤◌, Bool, true, false, cond, ltb, ◌⊎◌, List, [], ◌∷◌, ◌++◌, Some, None, Option, sym, refl, ap, ◌∙◌, subst, inl, inr, ⊎_elim, arith}
 use Rattle.std.proofs.lemmas.Bool.{cases_Bool, le-ltb, ltb-false, ltb-true}
-use Rattle.forms.specs.Faults.{Fault, Sheet as SheetLayer, fault}
+use Rattle.forms.specs.Faults.{Fault, fault}
 use Rattle.forms.specs.Lines.{Line}
 use Rattle.forms.specs.Sayings.{says}
+use Rattle.forms.specs.declared.faults.Layer.TheVariants.{Sheet as SheetLayer}
 use Rattle.forms.specs.declared.sayings.Said.{Said}
 use Rattle.forms.specs.declared.sayings.Said.TheVariants.{Sheet, Duty as AddDuty, Queue, At, End, Remark}
 use Rattle.sheet.specs.Ats.{AtLine}

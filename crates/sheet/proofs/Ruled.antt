@@ -1,9 +1,10 @@
 -- Reading a text gives what the rules say: line by line, and then the end of the text.
 use Rattle.std.proofs.Common.{◌≡◌, ℕ, ◌<◌, ◌≤◌, Bool, true, false, List, [], ◌∷◌, ◌++◌, length, Some, None, Ok, Err, Option, Result, sym, refl, ap, ◌∙◌, subst, ⊎_elim}
 use Rattle.std.proofs.lemmas.Bool.{cases_Bool, cases_lt, le-leb, lt-leb}
-use Rattle.forms.specs.Faults.{Fault, Sheet as SheetLayer, fault, judged, unless}
+use Rattle.forms.specs.Faults.{Fault, fault, judged, unless}
 use Rattle.forms.specs.Lines.{Line, first_place, lines}
 use Rattle.forms.specs.Sayings.{says}
+use Rattle.forms.specs.declared.faults.Layer.TheVariants.{Sheet as SheetLayer}
 use Rattle.forms.specs.declared.faults.Place.{Place}
 use Rattle.forms.specs.declared.sayings.Said.TheVariants.{End}
 use Rattle.sheet.specs.Orders.{SoFar, line_judged, lines_judged, nothing_read, with_said}

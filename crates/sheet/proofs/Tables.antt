@@ -7,9 +7,10 @@ use Rattle.model.proofs.Admitted.{admitted_says}
 use Rattle.model.specs.Table.{add_refusal, admitted, unschedulable}
 use Rattle.model.specs.declared.duties.Duty.{Duty}
 use Rattle.table.proofs.Admission.{within_inserted}
-use Rattle.forms.specs.Faults.{Fault, Sheet as SheetLayer, fault, unless}
+use Rattle.forms.specs.Faults.{Fault, fault, unless}
 use Rattle.forms.specs.Lines.{Line, first_place, lines}
 use Rattle.forms.specs.Sayings.{forms_faults, letters_faults, says}
+use Rattle.forms.specs.declared.faults.Layer.TheVariants.{Sheet as SheetLayer}
 use Rattle.forms.specs.declared.faults.Place.{Place}
 use Rattle.forms.specs.declared.sayings.Said.{Said}
 use Rattle.forms.specs.declared.sayings.Said.TheVariants.{Sheet, Duty as AddDuty, Queue, At, End, Remark}
