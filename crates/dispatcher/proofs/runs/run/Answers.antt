@@ -7,7 +7,8 @@ use Rattle.model.specs.Machine.{State, Step, fresh}
 use Rattle.model.specs.Runs.{Run, Trace, stay}
 use Rattle.model.specs.declared.duties.Duty.{Duty}
 use Rattle.table.specs.Settings.{table_of}
-use Rattle.dispatcher.proofs.Scripted.{calls_stay, left_more, no_entry, run_more, trace_more}
+use Rattle.queue.specs.Untouched.{none}
+use Rattle.dispatcher.proofs.Scripted.{calls_stay, left_along, left_more, no_entry, run_more, trace_more}
 use Rattle.dispatcher.specs.Left.{LeftAlong}
 use Rattle.dispatcher.specs.Scripts.{trace_of}
 use Rattle.dispatcher.specs.Views.{duties, view}
@@ -70,13 +71,15 @@ returns g c =
     λ past arose. subst (g.Q.Queue.arises past) (sym c.start-dispatcher.ensures.queue) arose in
     let went : GoesOn g.Q.Queue.arises q (history (trace_of c.loop-entry.script)) c.loop-entry.dispatcher.queue =
     subst (λ (s : List Entry). GoesOn g.Q.Queue.arises q (history (trace_of s)) c.loop-entry.dispatcher.queue) whole goes_on in
+    let along : LeftAlong g.Q.Queue.untouched c.args.queue (trace_of c.loop-entry.script) c.loop-entry.dispatcher.queue =
+    subst (λ start. LeftAlong g.Q.Queue.untouched start (trace_of c.loop-entry.script) c.loop-entry.dispatcher.queue) c.start-dispatcher.ensures.queue
+    (subst (λ (s : List Entry). LeftAlong g.Q.Queue.untouched q (trace_of s) c.loop-entry.dispatcher.queue) whole left) in
     record {
       promise = every_run_keeps_the_promise (table_of setting) m (trace_of c.loop-entry.script) end setting.admits (g.Q.Queue.sound c.args.queue) fresh-run;
       calls = calls;
       table = table ∙ c.start-dispatcher.ensures.table;
       history = λ past arose. went past (started past arose);
-      untouched =
-          subst (λ start. LeftAlong g.Q.Queue.untouched start (trace_of c.loop-entry.script) c.loop-entry.dispatcher.queue) c.start-dispatcher.ensures.queue
-          (subst (λ (s : List Entry). LeftAlong g.Q.Queue.untouched q (trace_of s) c.loop-entry.dispatcher.queue) whole left);
+      untouched = left_along g.Q.Queue.untouched c.args.queue c.args.queue c.loop-entry.dispatcher.queue (trace_of c.loop-entry.script) none along;
+      left = along;
       chosen = λ past arose. subst (λ (s : List Entry). Chosen g.Q.Queue.choice past (trace_of s)) whole (chosen past (started past arose));
     }
