@@ -137,7 +137,7 @@ form_items (bracket {n = n} w ws inner lt l all reads) is_form =
           ∙ letters_on 0 (w ∷ ws) inner (and_from (letter w) (all_of letter ws) l all)
           ∙ ap (begun (w ∷ ws)) r.whole
           ∙ ap (λ xs. (w ∷ xs) ∷ r.others) (append-nil ws);
-      letters = and_from (letter w) (all_of letter ws) l all;
+      is_word = and_from (letter w) (all_of letter ws) l all;
       deep = n;
       less = lt;
       read = r.read;

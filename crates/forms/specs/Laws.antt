@@ -1,8 +1,8 @@
 -- Laws of lines and items: nothing of a text is lost or made up when it is taken apart, and the items of a form are those that the
 -- grammar reads.
-use Rattle.std.specs.Prelude.{◌≡◌, ℕ, ◌+◌, ◌<◌, true, cond, not, ◌⊎◌, List, [], ◌∷◌, ◌++◌, length, ◌==◌}
+use Rattle.std.specs.Prelude.{◌≡◌, ℕ, ◌+◌, ◌<◌, true, cond, not, ◌&&◌, ◌⊎◌, List, [], ◌∷◌, ◌++◌, length, ◌==◌}
 use Rattle.std.specs.List.{flat_map, AllByRecursion}
-use Rattle.forms.specs.Forms.{letter}
+use Rattle.forms.specs.Forms.{empty, letter}
 use Rattle.forms.specs.Grammar.{Reads, all_of, form, item}
 use Rattle.forms.specs.Items.{inside, items}
 use Rattle.forms.specs.Lines.{Line, lines}
@@ -38,7 +38,7 @@ pub record FormItems (deepest : ℕ) (is : List (List ℕ)) : Type 0 where
   pub word : List ℕ
   pub others : List (List ℕ)
   pub whole : is ≡ word ∷ others
-  pub letters : all_of letter word ≡ true
+  pub is_word : (not (empty word) && all_of letter word) ≡ true
   pub deep : ℕ
   pub less : deep < deepest
   pub read : AllByRecursion (Reads item deep) others
