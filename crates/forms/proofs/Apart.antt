@@ -7,6 +7,7 @@ use Rattle.forms.specs.Items.{item_begun_by, items, open_after}
 use Rattle.forms.specs.Laws.{Follow, LinesOf, TakenApart, spaced, with_end}
 use Rattle.forms.specs.Lines.{Line, begun_by, lines, next_byte, next_line}
 use Rattle.forms.specs.declared.faults.Place.{Place}
+use Rattle.forms.proofs.Inside.{form_items}
 use Rattle.forms.proofs.Itemized.{items_split}
 
 -- One byte more at the front of the first line.
@@ -69,4 +70,4 @@ items_spaced depth (b ∷ bs) =
     (cases_Bool (space b && eqb depth 0))
 
 pub taken_apart : TakenApart
-taken_apart = record { by_lines = lines_of; by_items = items_spaced }
+taken_apart = record { by_lines = lines_of; by_items = items_spaced; of_form = λ deepest bs reads. form_items reads refl }

@@ -13,14 +13,14 @@ use Rattle.forms.specs.Sayings.{call, call_of_items}
 use Rattle.forms.proofs.Apart.{taken_apart}
 use Rattle.forms.proofs.Grammatical.{forms_by_grammar}
 
-abbrev is_plain_form : List ℕ → Bool
-is_plain_form bs = bracketed bs && spelled_out bs
+abbrev formed : List ℕ → Bool
+formed bs = bracketed bs && spelled_out bs
 
 some_mapped : {X Y : Type 0} (f : X → Y) (o : Option X) → is_some (option_map f o) ≡ true → is_some o ≡ true
 some_mapped f None e = e
 some_mapped f (Some x) e = refl
 
--- Where one of two has something, what holds of both holds.
+-- Where one of two has something, it is the first or the second.
 either : {X : Type 0} {P : Type 0} (t : Bool) (x y : Option X) → (t ≡ true → is_some x ≡ true → P) → (is_some y ≡ true → P)
     → is_some (cond t x y) ≡ true → P
 either true x y first second e = first refl e
@@ -91,7 +91,7 @@ call_reads (word ∷ is) e =
     e
 
 -- What says a call between two brackets is a form.
-says_form : (bs : List ℕ) → is_some (call_of_items (items 0 bs)) ≡ true → is_plain_form (40 ∷ (bs ++ (41 ∷ []))) ≡ true
+says_form : (bs : List ℕ) → is_some (call_of_items (items 0 bs)) ≡ true → formed (40 ∷ (bs ++ (41 ∷ []))) ≡ true
 says_form bs e =
     let r = call_reads (items 0 bs) e in
     let whole : bs ≡ r.first ∷ (r.others ++ r.rest) = sym (taken_apart.by_items 0 bs) ∙ r.whole in
@@ -123,7 +123,7 @@ last_closes depth b (c ∷ cs) e =
     last c [] closes over = ap (λ x. x ∷ []) (eqb-true c 41 closes)
     last c (d ∷ ds) closes over = cc
 
-form_brackets : (bs : List ℕ) → is_plain_form bs ≡ true → in_brackets bs ≡ true
+form_brackets : (bs : List ℕ) → formed bs ≡ true → in_brackets bs ≡ true
 form_brackets [] e = cc
 form_brackets (b ∷ bs) e =
     let both = and_parts (opening b) (closed 1 bs) (and_parts (bracketed (b ∷ bs)) (spelled_out (b ∷ bs)) e).0 in
@@ -153,8 +153,8 @@ brackets_around (b ∷ c ∷ cs) e =
     (ap (λ x. x ∷ c ∷ cs) opens
     ∙ ap (λ xs. 40 ∷ xs) (sym (take-append-drop (length cs) (c ∷ cs)) ∙ ap (λ xs. take (length cs) (c ∷ cs) ++ xs) end))
 
-no_form : (bs : List ℕ) → in_brackets bs ≡ false → is_plain_form bs ≡ false
-no_form bs f = ⊎_elim (λ formed. formed ∙ sym (form_brackets bs formed) ∙ f) (λ no. no) (cases_Bool (is_plain_form bs))
+no_form : (bs : List ℕ) → in_brackets bs ≡ false → formed bs ≡ false
+no_form bs f = ⊎_elim (λ formed. formed ∙ sym (form_brackets bs formed) ∙ f) (λ no. no) (cases_Bool (formed bs))
 
 none_or : {X : Type 0} (o : Option X) (t : Bool) → (is_some o ≡ true → t ≡ true) → cond t o None ≡ o
 none_or None true found = refl
@@ -167,6 +167,6 @@ call_by_brackets bs =
     let found = call_of_items (items 0 (inside bs)) in
     ⊎_elim
     (λ t.
-    rw t (none_or found (is_plain_form bs) (λ some. subst (λ xs. is_plain_form xs ≡ true) (sym (brackets_around bs t)) (says_form (inside bs) some))))
+    rw t (none_or found (formed bs) (λ some. subst (λ xs. formed xs ≡ true) (sym (brackets_around bs t)) (says_form (inside bs) some))))
     (λ f. let no = no_form bs f in rw (f, no))
     (cases_Bool (in_brackets bs))

@@ -3,6 +3,7 @@ pub mod Called
 pub mod Ends
 pub mod Firsts
 pub mod Grammatical
+pub mod Inside
 pub mod Itemized
 pub mod Lengths
 pub mod Numbered

@@ -1,8 +1,10 @@
--- Laws of lines and items: nothing of a text is lost or made up when it is taken apart.
-use Rattle.std.specs.Prelude.{◌≡◌, ℕ, ◌+◌, true, cond, not, ◌⊎◌, List, [], ◌∷◌, ◌++◌, length, ◌==◌}
-use Rattle.std.specs.List.{flat_map}
-use Rattle.forms.specs.Grammar.{all_of}
-use Rattle.forms.specs.Items.{items}
+-- Laws of lines and items: nothing of a text is lost or made up when it is taken apart, and the items of a form are those that the
+-- grammar reads.
+use Rattle.std.specs.Prelude.{◌≡◌, ℕ, ◌+◌, ◌<◌, true, cond, not, ◌&&◌, ◌⊎◌, List, [], ◌∷◌, ◌++◌, length, ◌==◌}
+use Rattle.std.specs.List.{flat_map, AllByRecursion}
+use Rattle.forms.specs.Forms.{empty, letter}
+use Rattle.forms.specs.Grammar.{Reads, all_of, form, item}
+use Rattle.forms.specs.Items.{inside, items}
 use Rattle.forms.specs.Lines.{Line, lines}
 use Rattle.forms.specs.declared.faults.Place.{Place}
 
@@ -31,6 +33,17 @@ spaced [] = []
 spaced (i ∷ []) = i
 spaced (i ∷ j ∷ is) = i ++ (32 ∷ spaced (j ∷ is))
 
+-- The items of a form that nests at most so deep: its word, and behind it words, numbers and forms that nest less deep.
+pub record FormItems (deepest : ℕ) (is : List (List ℕ)) : Type 0 where
+  pub word : List ℕ
+  pub others : List (List ℕ)
+  pub whole : is ≡ word ∷ others
+  pub is_word : (not (empty word) && all_of letter word) ≡ true
+  pub deep : ℕ
+  pub less : deep < deepest
+  pub read : AllByRecursion (Reads item deep) others
+
 pub record TakenApart : Type 0 where
   pub by_lines : (p : Place) (text : List ℕ) → LinesOf p text
   pub by_items : (depth : ℕ) (bs : List ℕ) → spaced (items depth bs) ≡ bs
+  pub of_form : (deepest : ℕ) (bs : List ℕ) → Reads form deepest bs → FormItems deepest (items 0 (inside bs))

@@ -101,7 +101,8 @@ impl<'a> Iterator for Items<'a> {
     }
 }
 
-// Nothing of a text is lost or made up when it is taken apart into lines, or a form into items.
+// Nothing of a text is lost or made up when it is taken apart into lines, or a form into items; and these are the form's word, then
+// words, numbers and forms.
 pub fn taken_apart()
     ensures { TakenApart }
 {}

@@ -33,7 +33,7 @@ set_behind : (s : SoFar) (before behind : List Line) → set_by_lines s (before 
 set_behind s [] behind = refl
 set_behind s (l ∷ before) behind = set_behind (with_said s l (says l)) before behind
 
-pub behind_faultless : (before : List Line) (s : SoFar) (ls : List Line) → Faultless s (before ++ ls) → Faultless (set_by_lines s before) ls
+behind_faultless : (before : List Line) (s : SoFar) (ls : List Line) → Faultless s (before ++ ls) → Faultless (set_by_lines s before) ls
 behind_faultless [] s ls faultless = faultless
 behind_faultless (l ∷ before) s ls faultless =
     behind_faultless before (with_said s l (says l)) ls (later_faultless s l (before ++ ls) faultless)
@@ -75,11 +75,11 @@ no_end_yet s l (End ticks) not_yet = inl (record { ticks = ticks; is = refl })
 no_end_yet s l Remark not_yet = inr not_yet
 
 -- One line more before a line that says something.
-pub said_later : (l : Line) (ls : List Line) (what : Said) → Saying ls what → Saying (l ∷ ls) what
+said_later : (l : Line) (ls : List Line) (what : Said) → Saying ls what → Saying (l ∷ ls) what
 said_later l ls what r =
     record { before = l ∷ r.before; line = r.line; behind = r.behind; whole = ap (λ xs. l ∷ xs) r.whole; is_said = r.is_said }
 
-pub said_first : (l : Line) (ls : List Line) (what : Said) → says l ≡ what → Saying (l ∷ ls) what
+said_first : (l : Line) (ls : List Line) (what : Said) → says l ≡ what → Saying (l ∷ ls) what
 said_first l ls what e = record { before = []; line = l; behind = ls; whole = refl; is_said = e }
 
 -- Where the end was reached, a line says it.

@@ -17,7 +17,7 @@ use Rattle.forms.specs.declared.sayings.Said.{Said}
 use Rattle.forms.specs.declared.sayings.Said.TheVariants.{Sheet, Duty as AddDuty, Queue, At, End, Remark}
 use Rattle.sheet.specs.Ats.{AtLine}
 use Rattle.sheet.specs.Orders.{SoFar, fault_16, fault_17, fault_of_table, has_room, in_order, line_judged, refused_at, sheet_faults, table_faults, table_says, with_said}
-use Rattle.sheet.specs.Rules.{Before, Counts, Has, bad_letter as BadLetter, not_ended, no_form, wrong_items, large_number, late_end, out_of_order, no_room, refused, rank}
+use Rattle.sheet.specs.Rules.{Before, Counts, Has, bad_letter as BadLetter, not_ended, no_form, wrong_items, large_number, large_end, out_of_order, no_room, refused, rank}
 use Rattle.sheet.specs.Told.{table_fault}
 use Rattle.sheet.proofs.Firsts.{OneOf, Ordered, first_judged, judged_first, judged_without, without_judged}
 use Rattle.sheet.proofs.Judgements.{judged_value}
@@ -146,7 +146,7 @@ module _ (s : SoFar) (l : Line) where
   found f (large_number plain large) =
       inr (inr (inr (inl (failed (is_remark l.bytes || (numbers_fit l.bytes && end_fits (says l))) (fault 15 Forms l.place)
       (or_from (is_remark l.bytes) (numbers_fit l.bytes && end_fits (says l)) plain (and_left (numbers_fit l.bytes) (end_fits (says l)) large))))))
-  found f (late_end ticks is late) =
+  found f (large_end ticks is late) =
       let plain : is_remark l.bytes ≡ false =
       ⊎_elim (λ t. let other = remark_says l t in cc) (λ fails. fails) (cases_Bool (is_remark l.bytes)) in
       inr (inr (inr (inl (failed (is_remark l.bytes || (numbers_fit l.bytes && end_fits (says l))) (fault 15 Forms l.place)
@@ -180,7 +180,7 @@ module _ (s : SoFar) (l : Line) where
       let r = failing (is_remark l.bytes || (numbers_fit l.bytes && end_fits (says l))) (fault 15 Forms l.place) f e in
       let both = or_parts (is_remark l.bytes) (numbers_fit l.bytes && end_fits (says l)) r.0 in
       subst (Has s l) r.1
-      (⊎_elim (λ large. large_number both.0 large) (λ late. let end = end_late (says l) late in late_end end.ticks end.is end.late)
+      (⊎_elim (λ large. large_number both.0 large) (λ late. let end = end_late (says l) late in large_end end.ticks end.is end.late)
       (and_cases (numbers_fit l.bytes) (end_fits (says l)) both.1))
 
   by_16 : (f : Fault) → fault_16 s l ≡ Some f → Has s l f

@@ -28,7 +28,8 @@ rank Table = 3
 abbrev pub Before : Fault → Fault → Type 0
 Before f g = (rank f.layer < rank g.layer) ⊎ ((f.layer ≡ g.layer) × (f.number < g.number))
 
--- The faults that a line has behind those that set so much: each by its own rule, whatever other faults the line has.
+-- The faults of a line, where the lines before it have set this: each by its own rule, whatever other faults the line has. The
+-- rules of 14 and 15 hold for bytes that are no form as well; there 13 counts before them.
 pub data Has (s : SoFar) (l : Line) : Fault → Type 0 where
   bad_letter : (good rest : List ℕ) (b : ℕ) → l.bytes ≡ good ++ (b ∷ rest) → all_of allowed good ≡ true → allowed b ≡ false
       → Has s l (fault 12 Letters (further l.place (length good)))
@@ -36,13 +37,13 @@ pub data Has (s : SoFar) (l : Line) : Fault → Type 0 where
   no_form : is_form l.bytes ≡ false → Has s l (fault 13 Forms l.place)
   wrong_items : said l.bytes ≡ None → Has s l (fault 14 Forms l.place)
   large_number : is_remark l.bytes ≡ false → numbers_fit l.bytes ≡ false → Has s l (fault 15 Forms l.place)
-  late_end : (ticks : ℕ) → says l ≡ End ticks → 10000 < ticks → Has s l (fault 15 Forms l.place)
+  large_end : (ticks : ℕ) → says l ≡ End ticks → 10000 < ticks → Has s l (fault 15 Forms l.place)
   out_of_order : in_order s.stage (says l) ≡ false → Has s l (fault 16 SheetLayer l.place)
   no_room : (clock : ℕ) → says l ≡ At clock → 256 ≤ length s.ats → Has s l (fault 17 SheetLayer l.place)
   refused : (place : ℕ) (d : Duty) (number : ℕ) (values : List ℕ) → says l ≡ AddDuty place d
       → add_refusal s.table place d ≡ number ∷ values → Has s l (table_fault l.place (number ∷ values))
 
--- The fault of a line that counts: the line has it, and has any other behind it.
+-- The fault of a line that counts: the line has it, and it counts before any other that the line has.
 pub record Counts (s : SoFar) (l : Line) (f : Fault) : Type 0 where
   pub has : Has s l f
   pub others : (g : Fault) → Has s l g → (g ≡ f) ⊎ Before f g
@@ -52,12 +53,12 @@ abbrev pub set_by_lines : SoFar → List Line → SoFar
 set_by_lines s [] = s
 set_by_lines s (l ∷ ls) = set_by_lines (with_said s l (says l)) ls
 
--- None of the lines has a fault, each behind those before it.
+-- No line has a fault, each where the lines before it have set what they say.
 abbrev pub Faultless : SoFar → List Line → Type 0
 Faultless s ls =
     (before : List Line) (l : Line) (behind : List Line) (f : Fault) → ls ≡ before ++ (l ∷ behind) → Has (set_by_lines s before) l f → ⊥
 
--- One of the lines says this.
+-- One of the lines says this, and there are these before it and these behind it.
 pub record Saying (ls : List Line) (what : Said) : Type 0 where
   pub before : List Line
   pub line : Line
