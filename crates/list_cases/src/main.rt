@@ -60,7 +60,11 @@ fn four(rt: &HostRuntime) -> io::Result<()> {
     insert_all(rt, &mut list, &[(1, "e"), (4, "e"), (9, "e")])?;
     show(rt, &list)?;
     println!(rt; "remove {} {}", list.remove(1), list.remove(3))?;
-    println!(rt; "replace {} {}", list.replace(1, due(4, "f")), list.replace(1, due(5, "g")))?;
+    println!(rt;
+        "replace {} {}",
+        list.replace(1, due(4, "f")),
+        list.replace(1, due(5, "g"))
+    )?;
     show(rt, &list)?;
     insert_all(rt, &mut list, &[(0, "h"), (0, "i")])?;
     show(rt, &list)?;
