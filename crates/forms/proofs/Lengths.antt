@@ -1,5 +1,5 @@
--- A form is no shorter than its items are many, and no text is shorter than the bytes of its lines.
-use Rattle.std.proofs.Common.{ℕ, ◌+◌, ◌-◌, ◌≤◌, cond, List, [], ◌∷◌, ◌++◌, length, take, ap, arith, length-append, length-drop, length-take}
+-- How many items a form can have, and how many bytes the lines of a text.
+use Rattle.std.proofs.Common.{ℕ, ◌+◌, ◌-◌, ◌≤◌, cond, List, [], ◌∷◌, length, take, ap, arith, length-append, length-drop, length-take}
 use Rattle.std.specs.List.{flat_map}
 use Rattle.forms.specs.Items.{inside, items}
 use Rattle.forms.specs.Laws.{spaced, with_end}
@@ -17,7 +17,7 @@ items_within bs =
     let apart = ap length (taken_apart.by_items 0 (inside bs)) in
     omega (arith, spaced_long (items 0 (inside bs)), apart, length-drop 1 (take (length bs - 1) bs), length-take (length bs - 1) bs)
 
--- A line and the lines behind it.
+-- The bytes of a line, and what is made of the lines behind it.
 pub line_within : (l : Line) (ls : List Line) → length l.bytes + length (flat_map with_end ls) ≤ length (flat_map with_end (l ∷ ls))
 line_within l ls =
     omega (arith, length-append (with_end l) (flat_map with_end ls), length-append l.bytes (cond l.ended (10 ∷ []) []))

@@ -7,7 +7,7 @@ use Rattle.forms.specs.Lines.{Line, first_place, lines}
 use Rattle.forms.specs.Sayings.{fault_15, forms_faults, letters_faults, says}
 use Rattle.forms.specs.declared.faults.Place.{Place}
 use Rattle.sheet.specs.Orders.{SoFar, fault_17, line_judged, lines_judged, nothing_read, sheet_faults, table_faults, with_said}
-use Rattle.sheet.specs.Sheets.{Set, late, missing_line, of_lines, over, sheet_of, too_long, whole}
+use Rattle.sheet.specs.Sheets.{Set, late, missing_line, of_lines, over, sheet_of, too_long}
 use Rattle.sheet.proofs.Judgements.{judged_value}
 
 module _ (P : List Line → SoFar → Type 0) (step : (s u : SoFar) (l : Line) (ls : List Line) → line_judged s l ≡ Ok u → P (l ∷ ls) s → P ls u) where

@@ -1,6 +1,6 @@
--- A script has a tick for each clock, and the calls of each at-line at most once; and these are no more than the at-line's bytes.
-use Rattle.std.proofs.Common.{◌≡◌, ℕ, zero, suc, ◌+◌, ◌-◌, ◌≤◌, Bool, true, false, cond, eqb, ltb, List, [], ◌∷◌, ◌++◌, length, Some, None, Option, refl, ⊎_elim, arith, length-append}
-use Rattle.std.specs.List.{flat_map, sum_by}
+-- A script has a tick for each clock, and the calls of each at-line at most once; and an at-line has no more calls than bytes.
+use Rattle.std.proofs.Common.{◌≡◌, ℕ, zero, suc, ◌+◌, ◌-◌, ◌≤◌, cond, eqb, ltb, List, [], ◌∷◌, ◌++◌, length, Some, None, Option, refl, ⊎_elim, arith, length-append}
+use Rattle.std.specs.List.{sum_by}
 use Rattle.std.proofs.lemmas.Bool.{cases_Bool, cond_both, le-ltb}
 use Rattle.std.proofs.lemmas.Bool.Decides.{nat_tests}
 use Rattle.std.proofs.lemmas.List.Sums.{sum_by-cons}
@@ -10,8 +10,8 @@ use Rattle.forms.proofs.Lengths.{items_within}
 use Rattle.model.specs.declared.calls.Call.{Call}
 use Rattle.model.specs.declared.calls.Call.TheVariants.{Tick}
 use Rattle.sheet.specs.Ats.{AtLine, behind_first, calls_in, calls_of}
-use Rattle.sheet.proofs.Small.{bytes_of_ats, sheet_is_small}
-use Rattle.transcript.specs.Schedules.{at_lines, calls_before, script_of}
+use Rattle.sheet.proofs.Small.{byte_count, sheet_is_small}
+use Rattle.transcript.specs.Schedules.{calls_before, script_of}
 use Rattle.transcript.specs.Sizes.{ScriptsFit, SheetsFit}
 
 -- No more calls than items.
@@ -34,11 +34,11 @@ calls_of_line a =
     let all = items 0 (inside a.bytes) in
     omega (arith, calls_within (behind_first (behind_first all)), behind_shorter (behind_first all), behind_shorter all, items_within a.bytes)
 
--- The calls of at-lines.
-abbrev calls_of_ats : List AtLine → ℕ
-calls_of_ats = sum_by (λ a. length (calls_of a))
+-- How many calls at-lines have.
+abbrev call_count : List AtLine → ℕ
+call_count = sum_by (λ a. length (calls_of a))
 
-calls_of_lines : (ats : List AtLine) → calls_of_ats ats ≤ bytes_of_ats ats
+calls_of_lines : (ats : List AtLine) → call_count ats ≤ byte_count ats
 calls_of_lines [] = omega arith
 calls_of_lines (a ∷ ats) =
     omega (
@@ -86,7 +86,7 @@ script_of_ticks : (n : ℕ) → length (script_of [] n) ≡ n
 script_of_ticks zero = refl
 script_of_ticks (suc clock) = omega (arith, script_of_ticks clock, script_longer [] clock)
 
-script_within : (ats : List AtLine) (n : ℕ) → length (script_of ats n) ≤ calls_of_ats ats + n
+script_within : (ats : List AtLine) (n : ℕ) → length (script_of ats n) ≤ call_count ats + n
 script_within [] n = omega (arith, script_of_ticks n)
 script_within (a ∷ ats) n =
     let k = length (calls_of a) in
