@@ -9,5 +9,5 @@ invariant-loop-row l =
     record {
       rows : string_bytes l.out ≡ string_bytes l.initial.out ++ duty_lines (table_of l.setting) l.row;
       grown : string_len l.out ≤ string_len l.initial.out + 96 * l.row;
-      kept : string_capacity l.initial.out ≤ string_capacity l.out
+      kept : string_capacity l.initial.out ≤ string_capacity l.out;
     }

@@ -12,5 +12,5 @@ invariant-loop-entry l =
           ≡ string_bytes l.initial.out ++ event_lines 0 (trace_of l.script);
       behind : l.clock ≤ l.entry-index;
       grown : string_len l.out ≤ string_len l.initial.out + 96 * l.entry-index;
-      kept : string_capacity l.initial.out ≤ string_capacity l.out
+      kept : string_capacity l.initial.out ≤ string_capacity l.out;
     }

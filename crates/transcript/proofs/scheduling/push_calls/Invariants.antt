@@ -10,5 +10,5 @@ invariant-loop-call l =
       all :
           calls_of l.script.items ++ calls_left l.call-iterator
           ≡ calls_of l.initial.script.items ++ calls_left l.initial.call-iterator;
-      room : vec_capacity l.script ≡ vec_capacity l.initial.script
+      room : vec_capacity l.script ≡ vec_capacity l.initial.script;
     }

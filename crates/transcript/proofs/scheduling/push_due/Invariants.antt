@@ -13,7 +13,7 @@ invariant-loop-at l =
           calls_of l.script.items ++ flat_map calls_at (lines_of (due l.clock l.upcoming.line.now))
           ≡ calls_of l.initial.script.items ++ flat_map calls_at (lines_of (due l.clock l.initial.upcoming.line.now));
       rest : later l.clock l.upcoming.line.now ≡ later l.clock l.initial.upcoming.line.now;
-      room : vec_capacity l.script ≡ vec_capacity l.initial.script
+      room : vec_capacity l.script ≡ vec_capacity l.initial.script;
     }
 
 abbrev pub decreases-loop-at : goal.decreases-loop-at

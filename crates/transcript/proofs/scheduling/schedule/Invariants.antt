@@ -11,5 +11,5 @@ invariant-loop-clock l =
     record {
       so_far : calls_of l.script.items ≡ script_of (lines_of l.line) l.clock;
       ahead : Ahead l.clock (lines_of l.line) l.upcoming.line.now;
-      room : vec_capacity l.script ≡ vec_capacity l.initial.script
+      room : vec_capacity l.script ≡ vec_capacity l.initial.script;
     }

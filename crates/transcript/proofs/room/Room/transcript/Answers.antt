@@ -1,4 +1,4 @@
-use Rattle.std.proofs.Common.{◌≤◌, length, sym, arith}
+use Rattle.std.proofs.Common.{sym, arith}
 use Rattle.sheet.specs.Sheets.{set_by}
 use Rattle.transcript.proofs.Fitting.{scripts_fit}
 use Rattle.transcript.proofs.room.Room.transcript.Goals as goal
