@@ -17,8 +17,7 @@ use table::Setting;
 // dispatcher back. Whatever the queue holds at the start and whatever the calls are: answers and state are the
 // machine's, every deadline is met, each spare tick goes to an errand exactly when that can hurt nobody, and the
 // accounts of every errand balance. Which errand has such a tick goes by the queue's choice over all that happened to it. A call that
-// adds nothing to this leaves the queue as it was, or as the queue says that a refused request or withdraw leaves it. So a script
-// of such calls alone leaves what as many refusals leave.
+// adds nothing to this leaves the queue as it was, but for a refused request or withdraw: after these it is as the queue itself says.
 pub fn run<Q: Queue>(setting: Setting, queue: Q, script: &mut [Entry]) -> Dispatcher<Q>
     ensures promise { Promise (table_of setting) (Q.meaning queue) (trace_of script.new) (view Q.meaning result) }
     ensures calls { calls_of script.new ≡ calls_of script.old }
