@@ -1,10 +1,10 @@
--- Every accepted call to a row keeps what a running machine keeps: no row needs more after it, and no window ends
--- sooner.
+-- An accepted call to a row takes nothing from what any row has to spare: no row needs more after it, and no window
+-- ends sooner. So it keeps what a running machine keeps.
 use Rattle.std.proofs.Common.{◌≡◌, ℕ, pred, ◌<◌, ◌≤◌, Bool, true, false, cond, ltb, leb, List, [], ◌∷◌, length, set, refl, ⊎_elim, arith, length-set}
 use Rattle.std.proofs.lemmas.List.{get_or-set_same, get_or-set_other}
 use Rattle.std.proofs.lemmas.Bool.{cases_Bool, cases_eq, cond_both, ltb-true, ltb-false, leb-false}
-use Rattle.model.specs.Kept.{kept}
-use Rattle.model.specs.Machine.{row_refusal, row_after, call_refusal, rows_after}
+use Rattle.model.specs.Kept.{Keeps}
+use Rattle.model.specs.Machine.{Work, after_call, with_rows, row_refusal, row_after, call_refusal}
 use Rattle.model.specs.Reckoning.{need, window_end, row_at, no_row}
 use Rattle.model.specs.Table.{admitted, duty_at}
 use Rattle.model.specs.declared.duties.Duty.{Duty}
@@ -14,7 +14,7 @@ use Rattle.model.specs.declared.rows.RowCall.{RowCall}
 use Rattle.model.specs.declared.rows.RowCall.TheVariants.{Release, Done, Run}
 use Rattle.model.proofs.Admitted.{Limits, admitted_limits}
 use Rattle.model.proofs.Demand.{need_released, need_done, need_run}
-use Rattle.model.proofs.Keeping.{RowNumbers, Numbers, end_at, Keeping, kept_gives, kept_from}
+use Rattle.model.proofs.Keeping.{RowNumbers, Numbers, end_at, Spares, kept_gives, kept_from}
 use Rattle.model.proofs.Sums.{need_at, demand_le}
 
 -- A cond that is [] where its first way is not: the test failed.
@@ -28,47 +28,47 @@ release_allowed clock e h = ltb-false clock e (second_way (ltb clock e) 5 h)
 
 -- A call to a row that is accepted: there is such a row, and its state does not refuse.
 pub call_accepted :
-    (clock : ℕ) (rows : List Row) (i : ℕ) (call : RowCall)
-    → call_refusal clock rows i call ≡ [] → (i < length rows) × (row_refusal clock (row_at rows i) call ≡ [])
-call_accepted clock rows i call h =
+    (w : Work) (i : ℕ) (call : RowCall)
+    → call_refusal w i call ≡ [] → (i < length w.rows) × (row_refusal w.clock (row_at w.rows i) call ≡ [])
+call_accepted w i call h =
     ⊎_elim
-    (λ yes-row. (ltb-true i (length rows) yes-row, rw (yes-row, cond) at h))
+    (λ yes-row. (ltb-true i (length w.rows) yes-row, rw (yes-row, cond) at h))
     (λ no_such. absurd (let z : ◌≡◌ {A = ℕ} 0 1 = cc in omega arith))
-    (cases_Bool (ltb i (length rows)))
+    (cases_Bool (ltb i (length w.rows)))
 
 -- A row before and after: its numbers stay kept, it needs no more, and its window ends no sooner.
-pub record Eased (clock : ℕ) (duty : Duty) (row after : Row) : Type 0 where
+pub record NeedsNoMore (clock : ℕ) (duty : Duty) (row after : Row) : Type 0 where
   pub numbers : RowNumbers clock duty after
   pub needs : (x : ℕ) → clock < x → need clock duty after x ≤ need clock duty row x
   pub ends : window_end clock duty row ≤ window_end clock duty after
 
 -- What an accepted call does to a row whose window is open.
-pub row_call_eases :
+pub row_call_needs :
     (clock : ℕ) (duty : Duty) (row : Row) (call : RowCall)
     → Limits duty
     → RowNumbers clock duty row
     → clock < window_end clock duty row
     → row_refusal clock row call ≡ []
-    → Eased clock duty row (row_after duty clock row call)
-row_call_eases clock duty (Idle e) Release limits numbers ahead accepted =
+    → NeedsNoMore clock duty row (row_after duty clock row call)
+row_call_needs clock duty (Idle e) Release limits numbers ahead accepted =
     let allowed = release_allowed clock e accepted in
     record {
       numbers = (limits.cost_some, omega arith, omega arith, omega arith);
       needs = λ x later. omega (arith, need_released clock duty e x allowed later (omega (arith, limits)));
       ends = omega arith;
     }
-row_call_eases clock duty (Ready c d e) Release limits numbers ahead accepted =
+row_call_needs clock duty (Ready c d e) Release limits numbers ahead accepted =
     absurd (omega (arith, release_allowed clock e accepted, limits, numbers))
-row_call_eases clock duty (Idle e) Done limits numbers ahead accepted = absurd (let z : ◌≡◌ {A = ℕ} 0 1 = cc in omega arith)
-row_call_eases clock duty (Ready c d e) Done limits numbers ahead accepted =
+row_call_needs clock duty (Idle e) Done limits numbers ahead accepted = absurd (let z : ◌≡◌ {A = ℕ} 0 1 = cc in omega arith)
+row_call_needs clock duty (Ready c d e) Done limits numbers ahead accepted =
     record {
       numbers = numbers.3;
       needs = λ x later. need_done clock duty c d e x;
       ends = omega (arith, limits, numbers);
     }
-row_call_eases clock duty (Idle e) Run limits numbers ahead accepted =
+row_call_needs clock duty (Idle e) Run limits numbers ahead accepted =
     record { numbers = numbers; needs = λ x later. omega arith; ends = omega arith }
-row_call_eases clock duty (Ready c d e) Run limits numbers ahead accepted =
+row_call_needs clock duty (Ready c d e) Run limits numbers ahead accepted =
     record {
       numbers =
           cond_both (leb c 1) (Idle e) (Ready (pred c) d e) (RowNumbers clock duty)
@@ -94,76 +94,80 @@ at_set P rows k row short new others i =
     (λ other. rw (get_or-set_other rows k i row no_row other) (others i other))
     (cases_eq i k)
 
--- The window of each row of a kept table is open.
-pub window_open :
-    (clock : ℕ) (table : List Duty) (rows : List Row)
-    → Keeping clock table rows → (i : ℕ) → i < length table → clock < end_at clock table rows i
-window_open clock table rows keeping i inside = let (x, ahead, (before_end, met)) = keeping.cover i inside in omega arith
+-- A row that has anything to spare has an open window.
+pub spares_open : (w : Work) (i r : ℕ) → Spares w.clock w i r → w.clock < end_at w.clock w i
+spares_open w i r (x, ahead, (before_end, met)) = omega arith
 
--- A table one of whose rows is set to one that eases it.
+-- Row k is set to one that needs no more.
 module _
-    (clock : ℕ) (table : List Duty) (rows : List Row) (k : ℕ) (row : Row)
-    (there : k < length rows) (eased : Eased clock (duty_at table k) (row_at rows k) row) where
+    (w : Work) (numbers : Numbers w) (k : ℕ) (row : Row) (there : k < length w.rows)
+    (no_more : NeedsNoMore w.clock (duty_at w.table k) (row_at w.rows k) row) where
+  abbrev after : Work
+  after = with_rows w (set w.rows k row)
+
   -- Each row's numbers stay kept,
-  pub eased_numbers : Numbers clock table rows → Numbers clock table (set rows k row)
-  eased_numbers numbers =
+  pub set_numbers : Numbers after
+  set_numbers =
       record {
-        same_length = omega (arith, length-set rows k row, numbers.same_length);
+        same_length = omega (arith, length-set w.rows k row, numbers.same_length);
         each =
-            at_set (λ i r. i < length table → RowNumbers clock (duty_at table i) r) rows k row there
-            (λ _. eased.numbers) (λ i other. numbers.each i);
+            at_set (λ i r. i < length w.table → RowNumbers w.clock (duty_at w.table i) r) w.rows k row there
+            (λ _. no_more.numbers) (λ i other. numbers.each i);
       }
 
   -- no row needs more, and no window ends sooner,
-  pub eased_need : (x : ℕ) → clock < x → (j : ℕ) → need_at clock table (set rows k row) x j ≤ need_at clock table rows x j
-  eased_need x ahead =
-      at_set (λ j r. need clock (duty_at table j) r x ≤ need_at clock table rows x j) rows k row there
-      (eased.needs x ahead) (λ j other. omega arith)
+  pub set_need : (x : ℕ) → w.clock < x → (j : ℕ) → need_at w.clock w.table after.rows x j ≤ need_at w.clock w.table w.rows x j
+  set_need x ahead =
+      at_set (λ j r. need w.clock (duty_at w.table j) r x ≤ need_at w.clock w.table w.rows x j) w.rows k row there
+      (no_more.needs x ahead) (λ j other. omega arith)
 
-  pub eased_end : (j : ℕ) → end_at clock table rows j ≤ end_at clock table (set rows k row) j
-  eased_end =
-      at_set (λ j r. end_at clock table rows j ≤ window_end clock (duty_at table j) r) rows k row there
-      eased.ends (λ j other. omega arith)
+  pub set_end : (j : ℕ) → end_at w.clock w j ≤ end_at w.clock after j
+  set_end =
+      at_set (λ j r. end_at w.clock w j ≤ window_end w.clock (duty_at w.table j) r) w.rows k row there
+      no_more.ends (λ j other. omega arith)
 
-  -- so all rows stay covered.
-  eased_keeps : Keeping clock table rows → Keeping clock table (set rows k row)
-  eased_keeps keeping =
-      let later = eased_numbers keeping.numbers in
-      record {
-        numbers = later;
-        cover = λ i inside.
-            let (x, ahead, (before_end, met)) = keeping.cover i inside in
-            let no_more =
-            demand_le table i inside clock clock x rows (set rows k row) keeping.numbers.same_length later.same_length
-            (λ j h. eased_need x ahead j) in
-            (x, ahead, (omega (arith, eased_end i), omega arith));
-      }
+  -- so every row has still what it had to spare.
+  set_spares : (i r : ℕ) → i < length w.table → Spares w.clock w i r → Spares w.clock after i r
+  set_spares i r inside (x, ahead, (before_end, met)) =
+      let less =
+      demand_le w.table i inside w.clock w.clock x w.rows after.rows numbers.same_length set_numbers.same_length
+      (λ j h. set_need x ahead j) in
+      (x, ahead, (omega (arith, set_end i), omega arith))
 
--- An accepted call to row k of a kept table eases the row,
-pub call_eases :
-    (table : List Duty)
-    → admitted table ≡ true
-    → (clock : ℕ) (rows : List Row) (k : ℕ) (call : RowCall)
-    → Keeping clock table rows
-    → k < length rows
-    → row_refusal clock (row_at rows k) call ≡ []
-    → Eased clock (duty_at table k) (row_at rows k) (row_after (duty_at table k) clock (row_at rows k) call)
-call_eases table ok clock rows k call keeping there willing =
-    let inside : k < length table = omega (arith, keeping.numbers.same_length) in
-    row_call_eases clock (duty_at table k) (row_at rows k) call
-    (admitted_limits table ok k inside) (keeping.numbers.each k inside) (window_open clock table rows keeping k inside) willing
+-- An accepted call to row k, whose window is open.
+module _
+    (w : Work) (ok : admitted w.table ≡ true) (numbers : Numbers w) (k : ℕ) (call : RowCall)
+    (ahead : w.clock < end_at w.clock w k) (accepted : call_refusal w k call ≡ []) where
+  pub call_there : k < length w.rows
+  call_there = (call_accepted w k call accepted).0
 
--- and keeps the invariant at the same clock.
-pub call_keeps :
-    (table : List Duty)
-    → admitted table ≡ true
-    → (clock : ℕ) (rows : List Row) (k : ℕ) (call : RowCall)
-    → kept clock table rows ≡ true
-    → call_refusal clock rows k call ≡ []
-    → kept clock table (rows_after table clock rows k call) ≡ true
-call_keeps table ok clock rows k call keeps accepted =
-    let keeping = kept_gives clock table rows keeps in
-    let (there, willing) = call_accepted clock rows k call accepted in
-    kept_from clock table (rows_after table clock rows k call)
-    (eased_keeps clock table rows k (row_after (duty_at table k) clock (row_at rows k) call) there
-    (call_eases table ok clock rows k call keeping there willing) keeping)
+  -- The row needs no more,
+  pub call_needs : NeedsNoMore w.clock (duty_at w.table k) (row_at w.rows k) (row_after (duty_at w.table k) w.clock (row_at w.rows k) call)
+  call_needs =
+      let inside : k < length w.table = omega (arith, call_there, numbers.same_length) in
+      row_call_needs w.clock (duty_at w.table k) (row_at w.rows k) call
+      (admitted_limits w.table ok k inside) (numbers.each k inside) ahead (call_accepted w k call accepted).1
+
+  pub call_numbers : Numbers (after_call w k call)
+  call_numbers = set_numbers w numbers k (row_after (duty_at w.table k) w.clock (row_at w.rows k) call) call_there call_needs
+
+  -- and each row keeps what it had to spare.
+  pub call_spares : (i r : ℕ) → i < length w.table → Spares w.clock w i r → Spares w.clock (after_call w k call) i r
+  call_spares = set_spares w numbers k (row_after (duty_at w.table k) w.clock (row_at w.rows k) call) call_there call_needs
+
+-- So an accepted call keeps the invariant.
+pub call_keeps : (w : Work) (k : ℕ) (call : RowCall) → Keeps w → call_refusal w k call ≡ [] → Keeps (after_call w k call)
+call_keeps w k call keeps accepted =
+    let ok = keeps.table_admitted in
+    let keeping = kept_gives 0 w keeps.work_kept in
+    let there = (call_accepted w k call accepted).0 in
+    let ahead = spares_open w k 0 (keeping.spares k (omega (arith, keeping.numbers.same_length))) in
+    record {
+      table_admitted = ok;
+      work_kept =
+          kept_from 0 (after_call w k call)
+          (record {
+            numbers = call_numbers w ok keeping.numbers k call ahead accepted;
+            spares = λ i inside. call_spares w ok keeping.numbers k call ahead accepted i 0 inside (keeping.spares i inside);
+          });
+    }

@@ -1,8 +1,10 @@
--- The kept invariant as facts about each row, in place of tests: proofs take it apart and put it together here.
+-- The kept invariant as facts about each row, in place of tests: proofs take it apart and put it together here. What
+-- is said of the demand is said for any number r of ticks to spare; the invariant is the case r = 0.
 use Rattle.std.proofs.Common.{◌≡◌, ℕ, zero, suc, ◌+◌, ◌-◌, ◌<◌, ◌≤◌, true, List, [], ◌∷◌, length, refl, ⊎_elim, arith}
 use Rattle.std.proofs.lemmas.Bool.{and_parts, and_from, leb-true, le-leb, cases_order}
 use Rattle.std.proofs.lemmas.Bool.Decides.{nat_tests}
-use Rattle.model.specs.Kept.{row_kept, rows_kept, covers, covered, all_covered, kept}
+use Rattle.model.specs.Kept.{row_kept, rows_kept, covers, has_spare, all_spare, kept_with}
+use Rattle.model.specs.Machine.{Work}
 use Rattle.model.specs.Reckoning.{demand_at, window, window_end, row_at}
 use Rattle.model.specs.Table.{duty_at}
 use Rattle.model.specs.declared.duties.Duty.{Duty}
@@ -26,11 +28,15 @@ row_kept_from clock duty (Idle e) h = le-leb e (clock + duty.separation) h
 row_kept_from clock duty (Ready c d e) h = grind (arith, nat_tests)
 
 -- There is a state for each row, with its numbers kept.
-pub record Numbers (clock : ℕ) (table : List Duty) (rows : List Row) : Type 0 where
-  pub same_length : length rows ≡ length table
-  pub each : (i : ℕ) → i < length table → RowNumbers clock (duty_at table i) (row_at rows i)
+pub record Numbers (w : Work) : Type 0 where
+  pub same_length : length w.rows ≡ length w.table
+  pub each : (i : ℕ) → i < length w.table → RowNumbers w.clock (duty_at w.table i) (row_at w.rows i)
 
-pub rows_kept_gives : (clock : ℕ) (table : List Duty) (rows : List Row) → rows_kept clock table rows ≡ true → Numbers clock table rows
+-- The same of lists.
+abbrev NumbersOf : ℕ → List Duty → List Row → Type 0
+NumbersOf clock table rows = Numbers (record { table = table; clock = clock; rows = rows })
+
+rows_kept_gives : (clock : ℕ) (table : List Duty) (rows : List Row) → rows_kept clock table rows ≡ true → NumbersOf clock table rows
 rows_kept_gives clock [] [] h = record { same_length = refl; each = λ i short. absurd (omega arith) }
 rows_kept_gives clock [] (row ∷ rows) h = absurd (let z : ◌≡◌ {A = ℕ} 0 1 = cc in omega arith)
 rows_kept_gives clock (duty ∷ table) [] h = absurd (let z : ◌≡◌ {A = ℕ} 0 1 = cc in omega arith)
@@ -42,7 +48,7 @@ rows_kept_gives clock (duty ∷ table) (row ∷ rows) h =
       each = elim [ zero ↦ λ short. row_kept_gives clock duty row first | suc i ↦ λ short. rest.each i (omega arith) ];
     }
 
-pub rows_kept_from : (clock : ℕ) (table : List Duty) (rows : List Row) → Numbers clock table rows → rows_kept clock table rows ≡ true
+rows_kept_from : (clock : ℕ) (table : List Duty) (rows : List Row) → NumbersOf clock table rows → rows_kept clock table rows ≡ true
 rows_kept_from clock [] [] h = refl
 rows_kept_from clock [] (row ∷ rows) h = absurd (omega (arith, h.same_length))
 rows_kept_from clock (duty ∷ table) [] h = absurd (omega (arith, h.same_length))
@@ -52,64 +58,59 @@ rows_kept_from clock (duty ∷ table) (row ∷ rows) h =
     (rows_kept_from clock table rows
     (record { same_length = omega (arith, h.same_length); each = λ i short. h.each (suc i) (omega arith) }))
 
--- The clock at which row i's window ends.
-abbrev pub end_at : ℕ → List Duty → List Row → ℕ → ℕ
-end_at from table rows i = window_end from (duty_at table i) (row_at rows i)
+-- The clock at which row i's window ends, where idle rows may be released from the clock `from` on.
+abbrev pub end_at : ℕ → Work → ℕ → ℕ
+end_at from w i = window_end from (duty_at w.table i) (row_at w.rows i)
 
--- By the clock x, within row i's window, the demand of row i up to x can be met from the clock `from` on.
-abbrev pub Met : ℕ → List Duty → List Row → ℕ → ℕ → Type 0
-Met from table rows i x = (x ≤ end_at from table rows i) × (demand_at from table rows i x + from ≤ x)
+-- By the clock x, within row i's window, the demand of row i up to x can be met, with r ticks to spare.
+abbrev pub Met : ℕ → Work → ℕ → ℕ → ℕ → Type 0
+Met from w i r x = (x ≤ end_at from w i) × (demand_at from w.table w.rows i x + w.clock + r ≤ x)
 
--- Row i is covered: its demand can be met by some clock that lies ahead.
-abbrev pub Covered : ℕ → List Duty → List Row → ℕ → Type 0
-Covered clock table rows i = (x : ℕ) × (clock < x) × Met clock table rows i x
+-- Row i has r ticks to spare: its demand can so be met by some clock that lies ahead. With `from` the clock itself
+-- this is the early reckoning, with the clock after it the late one.
+abbrev pub Spares : ℕ → Work → ℕ → ℕ → Type 0
+Spares from w i r = (x : ℕ) × (w.clock < x) × Met from w i r x
 
-pub covered_gives :
-    (clock : ℕ) (table : List Duty) (rows : List Row) (i : ℕ) → covered clock table rows i ≡ true → Covered clock table rows i
-covered_gives clock table rows i h =
-    let (w, found) = search_finds (covers clock table rows i) 1 (window clock clock table rows i) h in
-    let enough = leb-true (demand_at clock table rows i (clock + w)) w found.passed in
-    (clock + w, omega (arith, found.above), (omega (arith, found.above, found.below), omega arith))
+has_spare_gives : (w : Work) (i r : ℕ) → has_spare w i r ≡ true → Spares w.clock w i r
+has_spare_gives w i r h =
+    let (ticks, found) = search_finds (covers w i r) 1 (window w.clock w.clock w.table w.rows i) h in
+    let enough = leb-true (demand_at w.clock w.table w.rows i (w.clock + ticks) + r) ticks found.passed in
+    (w.clock + ticks, omega (arith, found.above), (omega (arith, found.above, found.below), omega arith))
 
-pub covered_from :
-    (clock : ℕ) (table : List Duty) (rows : List Row) (i : ℕ) → Covered clock table rows i → covered clock table rows i ≡ true
-covered_from clock table rows i (x, ahead, (inside, met)) =
-    let at : clock + (x - clock) ≡ x = omega arith in
-    search_succeeds (covers clock table rows i) 1 (window clock clock table rows i) (x - clock) (omega arith) (omega arith)
-    (le-leb (demand_at clock table rows i (clock + (x - clock))) (x - clock) (rw at (omega arith)))
+has_spare_from : (w : Work) (i r : ℕ) → Spares w.clock w i r → has_spare w i r ≡ true
+has_spare_from w i r (x, ahead, (inside, met)) =
+    let at : w.clock + (x - w.clock) ≡ x = omega arith in
+    search_succeeds (covers w i r) 1 (window w.clock w.clock w.table w.rows i) (x - w.clock) (omega arith) (omega arith)
+    (le-leb (demand_at w.clock w.table w.rows i (w.clock + (x - w.clock)) + r) (x - w.clock) (rw at (omega arith)))
 
-pub all_covered_gives :
-    (clock : ℕ) (table : List Duty) (rows : List Row) (n : ℕ)
-    → all_covered clock table rows n ≡ true → (i : ℕ) → i < n → Covered clock table rows i
-all_covered_gives clock table rows zero h i short = absurd (omega arith)
-all_covered_gives clock table rows (suc n) h i short =
-    let (others, last) = and_parts (all_covered clock table rows n) (covered clock table rows n) h in
+all_spare_gives : (w : Work) (r n : ℕ) → all_spare w r n ≡ true → (i : ℕ) → i < n → Spares w.clock w i r
+all_spare_gives w r zero h i short = absurd (omega arith)
+all_spare_gives w r (suc n) h i short =
+    let (others, last) = and_parts (all_spare w r n) (has_spare w n r) h in
     ⊎_elim
-    (λ same. rw same (covered_gives clock table rows n last))
-    (⊎_elim (λ less. all_covered_gives clock table rows n others i less) (λ more. absurd (omega arith)))
+    (λ same. rw same (has_spare_gives w n r last))
+    (⊎_elim (λ less. all_spare_gives w r n others i less) (λ more. absurd (omega arith)))
     (cases_order i n)
 
-pub all_covered_from :
-    (clock : ℕ) (table : List Duty) (rows : List Row) (n : ℕ)
-    → ((i : ℕ) → i < n → Covered clock table rows i) → all_covered clock table rows n ≡ true
-all_covered_from clock table rows zero each = refl
-all_covered_from clock table rows (suc n) each =
-    and_from (all_covered clock table rows n) (covered clock table rows n)
-    (all_covered_from clock table rows n (λ i short. each i (omega arith)))
-    (covered_from clock table rows n (each n (omega arith)))
+all_spare_from : (w : Work) (r n : ℕ) → ((i : ℕ) → i < n → Spares w.clock w i r) → all_spare w r n ≡ true
+all_spare_from w r zero all = refl
+all_spare_from w r (suc n) all =
+    and_from (all_spare w r n) (has_spare w n r)
+    (all_spare_from w r n (λ i short. all i (omega arith)))
+    (has_spare_from w n r (all n (omega arith)))
 
--- What a running machine keeps, as facts.
-pub record Keeping (clock : ℕ) (table : List Duty) (rows : List Row) : Type 0 where
-  pub numbers : Numbers clock table rows
-  pub cover : (i : ℕ) → i < length table → Covered clock table rows i
+-- What `kept_with` says.
+pub record Keeping (r : ℕ) (w : Work) : Type 0 where
+  pub numbers : Numbers w
+  pub spares : (i : ℕ) → i < length w.table → Spares w.clock w i r
 
-pub kept_gives : (clock : ℕ) (table : List Duty) (rows : List Row) → kept clock table rows ≡ true → Keeping clock table rows
-kept_gives clock table rows h =
-    let (own, all) = and_parts (rows_kept clock table rows) (all_covered clock table rows (length table)) h in
-    record { numbers = rows_kept_gives clock table rows own; cover = all_covered_gives clock table rows (length table) all }
+pub kept_gives : (r : ℕ) (w : Work) → kept_with r w ≡ true → Keeping r w
+kept_gives r w h =
+    let (own, all) = and_parts (rows_kept w.clock w.table w.rows) (all_spare w r (length w.table)) h in
+    record { numbers = rows_kept_gives w.clock w.table w.rows own; spares = all_spare_gives w r (length w.table) all }
 
-pub kept_from : (clock : ℕ) (table : List Duty) (rows : List Row) → Keeping clock table rows → kept clock table rows ≡ true
-kept_from clock table rows h =
-    and_from (rows_kept clock table rows) (all_covered clock table rows (length table))
-    (rows_kept_from clock table rows h.numbers)
-    (all_covered_from clock table rows (length table) h.cover)
+pub kept_from : (r : ℕ) (w : Work) → Keeping r w → kept_with r w ≡ true
+kept_from r w h =
+    and_from (rows_kept w.clock w.table w.rows) (all_spare w r (length w.table))
+    (rows_kept_from w.clock w.table w.rows h.numbers)
+    (all_spare_from w r (length w.table) h.spares)

@@ -4,18 +4,17 @@ use Rattle.std.proofs.Common.{◌≡◌, ℕ, zero, suc, ◌+◌, ◌-◌, ◌<�
 use Rattle.std.proofs.lemmas.List.{get_or_past}
 use Rattle.std.proofs.lemmas.Bool.{cases_Bool, cases_lt, both_ways, or_cases, or_left, or_right, eqb-true, eq-eqb}
 use Rattle.model.specs.Futures.{overdue}
-use Rattle.model.specs.Kept.{kept, SlackNotBelow0}
+use Rattle.model.specs.Kept.{Keeps, SlackNotBelow0}
+use Rattle.model.specs.Machine.{Work}
 use Rattle.model.specs.Reckoning.{window, window_end, row_at, no_row}
-use Rattle.model.specs.Table.{admitted, duty_at}
+use Rattle.model.specs.Table.{duty_at}
 use Rattle.model.specs.declared.duties.Duty.{Duty}
 use Rattle.model.specs.declared.rows.Row.{Row}
 use Rattle.model.specs.declared.rows.Row.TheVariants.{Idle, Ready}
 use Rattle.model.proofs.Admitted.{Limits, admitted_limits}
-use Rattle.model.proofs.Accepting.{window_open}
-use Rattle.model.proofs.Demand.{need_later}
+use Rattle.model.proofs.Accepting.{spares_open}
 use Rattle.model.proofs.Keeping.{RowNumbers, kept_gives}
-use Rattle.model.proofs.Sums.{demand_le}
-use Rattle.model.proofs.Ticks.{window_later}
+use Rattle.model.proofs.Ticks.{early_late}
 
 -- A row that has a job is there.
 pub ready_inside : (rows : List Row) (i c d e : ℕ) → row_at rows i ≡ Ready c d e → i < length rows
@@ -44,43 +43,29 @@ row_overdue clock (Ready c d e ∷ rows) zero c' e' at = or_left (eqb clock d) (
 row_overdue clock (Ready c d e ∷ rows) (suc i) c' e' at = or_right (eqb clock d) (overdue clock rows) (row_overdue clock rows i c' e' at)
 
 -- The clock has not reached the deadline of any job,
-pub kept_before_due :
-    (clock : ℕ) (table : List Duty) (rows : List Row)
-    → kept clock table rows ≡ true
-    → (i c d e : ℕ)
-    → row_at rows i ≡ Ready c d e
-    → clock < d
-kept_before_due clock table rows keeps i c d e at =
-    let keeping = kept_gives clock table rows keeps in
-    let there = ready_inside rows i c d e at in
-    let ahead = window_open clock table rows keeping i (omega (arith, keeping.numbers.same_length)) in
+pub kept_before_due : (w : Work) → Keeps w → (i c d e : ℕ) → row_at w.rows i ≡ Ready c d e → w.clock < d
+kept_before_due w keeps i c d e at =
+    let keeping = kept_gives 0 w keeps.work_kept in
+    let there = ready_inside w.rows i c d e at in
+    let ahead = spares_open w i 0 (keeping.spares i (omega (arith, keeping.numbers.same_length))) in
     rw at at ahead
 
 -- so none is overdue,
-pub kept_not_overdue :
-    (clock : ℕ) (table : List Duty) (rows : List Row) → kept clock table rows ≡ true → overdue clock rows ≡ false
-kept_not_overdue clock table rows keeps =
+pub kept_not_overdue : (w : Work) → Keeps w → overdue w.clock w.rows ≡ false
+kept_not_overdue w keeps =
     ⊎_elim
-    (λ late. let (i, c, e, at) = overdue_row clock rows late in
-    absurd (omega (arith, kept_before_due clock table rows keeps i c clock e at)))
+    (λ late. let (i, c, e, at) = overdue_row w.clock w.rows late in
+    absurd (omega (arith, kept_before_due w keeps i c w.clock e at)))
     (λ none. none)
-    (cases_Bool (overdue clock rows))
+    (cases_Bool (overdue w.clock w.rows))
 
 -- and no row's slack is below 0: some number of ticks within its window covers its demand.
-pub kept_slack :
-    (clock : ℕ) (table : List Duty) (rows : List Row)
-    → kept clock table rows ≡ true
-    → (i : ℕ)
-    → i < length table
-    → SlackNotBelow0 clock table rows i
-kept_slack clock table rows keeps i inside =
-    let keeping = kept_gives clock table rows keeps in
-    let (x, ahead, (before_end, met)) = keeping.cover i inside in
-    let at : clock + (x - clock) ≡ x = omega arith in
-    let no_more =
-    demand_le table i inside clock (clock + 1) x rows rows keeping.numbers.same_length keeping.numbers.same_length
-    (λ k h. need_later clock (clock + 1) (duty_at table k) (row_at rows k) x (omega arith)) in
-    (x - clock, omega (arith, window_later clock (duty_at table i) (row_at rows i)), rw at (omega arith))
+pub kept_slack : (w : Work) → Keeps w → (i : ℕ) → i < length w.table → SlackNotBelow0 w i
+kept_slack w keeps i inside =
+    let keeping = kept_gives 0 w keeps.work_kept in
+    let (x, ahead, (before_end, met)) = early_late w keeping.numbers i 0 inside (keeping.spares i inside) in
+    let at : w.clock + (x - w.clock) ≡ x = omega arith in
+    (x - w.clock, omega arith, rw at (omega arith))
 
 -- A window ends at most 8,192 ticks ahead: the next release lies within a separation, and its deadline within another.
 row_window :
@@ -89,14 +74,8 @@ row_window :
 row_window clock duty (Idle e) limits numbers = omega (arith, limits)
 row_window clock duty (Ready c d e) limits numbers = omega (arith, limits, numbers)
 
-pub kept_window :
-    (table : List Duty)
-    → admitted table ≡ true
-    → (clock : ℕ) (rows : List Row)
-    → kept clock table rows ≡ true
-    → (i : ℕ)
-    → i < length table
-    → window (clock + 1) clock table rows i ≤ 8192
-kept_window table ok clock rows keeps i inside =
-    let numbers = (kept_gives clock table rows keeps).numbers.each i inside in
-    omega (arith, row_window clock (duty_at table i) (row_at rows i) (admitted_limits table ok i inside) numbers)
+pub kept_window : (w : Work) → Keeps w → (i : ℕ) → i < length w.table → window (w.clock + 1) w.clock w.table w.rows i ≤ 8192
+kept_window w keeps i inside =
+    let numbers = (kept_gives 0 w keeps.work_kept).numbers.each i inside in
+    omega
+    (arith, row_window w.clock (duty_at w.table i) (row_at w.rows i) (admitted_limits w.table keeps.table_admitted i inside) numbers)

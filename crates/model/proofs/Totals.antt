@@ -3,7 +3,7 @@
 -- since a run and the lists of those that wait are finite, and a list has each number once, so that none of its
 -- units is counted twice or passed over (Weights).
 use Rattle.std.proofs.Common.{◌≡◌, ℕ, suc, ◌+◌, ◌≤◌, Bool, true, false, cond, List, [], ◌∷◌, Ok, Err, refl, ap, ◌∙◌, arith}
-use Rattle.model.specs.Machine.{State, Step, fresh}
+use Rattle.model.specs.Machine.{State, Step}
 use Rattle.model.specs.Queues.{look, units_in, distinct}
 use Rattle.model.specs.Runs.{Run, stay, step, Trace, total, was_accepted, of_tick, errand_had, given_back, asked_for, is_withdraw, accepted, served, withdrawn}
 use Rattle.model.specs.Totals.{asked, any_errand_had, total_accepted, total_served, total_withdrawn, total_units, TotalsBalance}
@@ -13,7 +13,6 @@ use Rattle.model.specs.declared.calls.Call.{Call}
 use Rattle.model.specs.declared.calls.Call.TheVariants.{Release, Done, Request, Withdraw, Slack, Tick}
 use Rattle.model.specs.declared.calls.Who.{Who}
 use Rattle.model.specs.declared.calls.Who.TheVariants.{Nobody, Duty as ForDuty, Errand as ForErrand}
-use Rattle.model.specs.declared.duties.Duty.{Duty}
 use Rattle.model.specs.declared.errands.Errand.{Errand}
 use Rattle.model.proofs.Accounts.{units_looked_up, accounts_kept, run_sound}
 use Rattle.model.proofs.Weights.{list_bound, total_weight, under_one_number, weight_of, weight_of_all_numbers}
@@ -79,62 +78,60 @@ module _ (bound : ℕ) where
   served_of_all_numbers (Ticked k who) below = had_of_all_numbers who below
   served_of_all_numbers (Refused why) below = sum_zero
 
-  module _ (table : List Duty) where
-    -- Units come back by a withdraw alone, under its number.
-    withdrawn_of_all_numbers :
-        (s : State) (call : Call) (answer : Answer) (s' : State)
-        → Step table s call answer s'
-        → call_bound call ≤ bound
-        → sum_to (λ n. cond (is_withdraw n call) (given_back answer) 0) bound ≡ given_back answer
-    withdrawn_of_all_numbers s (Release i) answer s' (Ok x, answered, called) below = rw answered sum_zero
-    withdrawn_of_all_numbers s (Release i) answer s' (Err why, answered, called) below = rw answered sum_zero
-    withdrawn_of_all_numbers s (Done i) answer s' (Ok x, answered, called) below = rw answered sum_zero
-    withdrawn_of_all_numbers s (Done i) answer s' (Err why, answered, called) below = rw answered sum_zero
-    withdrawn_of_all_numbers s (Request e) answer s' (Ok x, answered, requested) below = rw answered sum_zero
-    withdrawn_of_all_numbers s (Request e) answer s' (Err why, answered, requested) below = rw answered sum_zero
-    withdrawn_of_all_numbers s (Withdraw k) answer s' one below = under_one_number bound k (given_back answer) below
-    withdrawn_of_all_numbers s Slack answer s' (answered, same) below = rw answered sum_zero
-    withdrawn_of_all_numbers s Tick answer s' (Ok told, answered, ticked) below = rw answered sum_zero
-    withdrawn_of_all_numbers s Tick answer s' (Err why, answered, ticked) below = rw answered sum_zero
+  -- Units come back by a withdraw alone, under its number.
+  withdrawn_of_all_numbers :
+      (s : State) (call : Call) (answer : Answer) (s' : State)
+      → Step s call answer s'
+      → call_bound call ≤ bound
+      → sum_to (λ n. cond (is_withdraw n call) (given_back answer) 0) bound ≡ given_back answer
+  withdrawn_of_all_numbers s (Release i) answer s' (Ok x, answered, called, queue-stays) below = rw answered sum_zero
+  withdrawn_of_all_numbers s (Release i) answer s' (Err why, answered, called, queue-stays) below = rw answered sum_zero
+  withdrawn_of_all_numbers s (Done i) answer s' (Ok x, answered, called, queue-stays) below = rw answered sum_zero
+  withdrawn_of_all_numbers s (Done i) answer s' (Err why, answered, called, queue-stays) below = rw answered sum_zero
+  withdrawn_of_all_numbers s (Request e) answer s' (Ok x, answered, put, work-stays) below = rw answered sum_zero
+  withdrawn_of_all_numbers s (Request e) answer s' (Err why, answered, put, work-stays) below = rw answered sum_zero
+  withdrawn_of_all_numbers s (Withdraw k) answer s' one below = under_one_number bound k (given_back answer) below
+  withdrawn_of_all_numbers s Slack answer s' (answered, same) below = rw answered sum_zero
+  withdrawn_of_all_numbers s Tick answer s' (Ok told, answered, ticked) below = rw answered sum_zero
+  withdrawn_of_all_numbers s Tick answer s' (Err why, answered, ticked) below = rw answered sum_zero
 
-    -- Where g says of each step what f says of it for all numbers, so do their totals over a run.
-    totals_of_all_numbers :
-        (f : ℕ → Call → Answer → ℕ) (g : Call → Answer → ℕ)
-        → ((s : State) (call : Call) (answer : Answer) (s' : State)
-        → Step table s call answer s' → step_bound call answer ≤ bound → sum_to (λ n. f n call answer) bound ≡ g call answer)
-        → (s : State) (trace : Trace) (end : State)
-        → Run table s trace end → total step_bound trace ≤ bound → sum_to (λ n. total (f n) trace) bound ≡ total g trace
-    totals_of_all_numbers f g each s trace end stay below = sum_zero
-    totals_of_all_numbers f g each s trace end (step {s' = s'} {call = call} {answer = answer} {rest = rest} one more) below =
-        omega (
-          arith,
-          sum_both (λ n. f n call answer) (λ n. total (f n) rest) bound,
-          each s call answer s' one (omega arith),
-          totals_of_all_numbers f g each s' rest end more (omega arith),
-        )
+  -- Where g says of each step what f says of it for all numbers, so do their totals over a run.
+  totals_of_all_numbers :
+      (f : ℕ → Call → Answer → ℕ) (g : Call → Answer → ℕ)
+      → ((s : State) (call : Call) (answer : Answer) (s' : State)
+      → Step s call answer s' → step_bound call answer ≤ bound → sum_to (λ n. f n call answer) bound ≡ g call answer)
+      → (s : State) (trace : Trace) (end : State)
+      → Run s trace end → total step_bound trace ≤ bound → sum_to (λ n. total (f n) trace) bound ≡ total g trace
+  totals_of_all_numbers f g each s trace end stay below = sum_zero
+  totals_of_all_numbers f g each s trace end (step {s' = s'} {call = call} {answer = answer} {rest = rest} one more) below =
+      omega (
+        arith,
+        sum_both (λ n. f n call answer) (λ n. total (f n) rest) bound,
+        each s call answer s' one (omega arith),
+        totals_of_all_numbers f g each s' rest end more (omega arith),
+      )
 
 pub totals_balance : TotalsBalance
-totals_balance table m trace end sound run =
-    let start : State = fresh table m in
+totals_balance start trace end sound run =
     let last : List Errand = end.queue.waiting in
-    let bound : ℕ = list_bound m.waiting + total step_bound trace + list_bound last in
+    let bound : ℕ = list_bound start.queue.waiting + total step_bound trace + list_bound last in
     let all-accepted : sum_to (λ n. accepted n trace) bound ≡ total_accepted trace =
-    totals_of_all_numbers bound table (λ n call answer. cond (was_accepted answer) (asked_for n call) 0)
+    totals_of_all_numbers bound (λ n call answer. cond (was_accepted answer) (asked_for n call) 0)
     (λ call answer. cond (was_accepted answer) (asked call) 0)
     (λ s call answer s' one below. accepted_of_all_numbers bound (was_accepted answer) call (omega arith)) start trace end run (omega arith) in
     let all-served : sum_to (λ n. served n trace) bound ≡ total_served trace =
-    totals_of_all_numbers bound table (λ n call answer. of_tick (errand_had n) answer) (λ call answer. of_tick any_errand_had answer)
+    totals_of_all_numbers bound (λ n call answer. of_tick (errand_had n) answer) (λ call answer. of_tick any_errand_had answer)
     (λ s call answer s' one below. served_of_all_numbers bound answer (omega arith)) start trace end run (omega arith) in
     let all-withdrawn : sum_to (λ n. withdrawn n trace) bound ≡ total_withdrawn trace =
-    totals_of_all_numbers bound table (λ n call answer. cond (is_withdraw n call) (given_back answer) 0) (λ call answer. given_back answer)
-    (λ s call answer s' one below. withdrawn_of_all_numbers bound table s call answer s' one (omega arith)) start trace end run (omega arith) in
+    totals_of_all_numbers bound (λ n call answer. cond (is_withdraw n call) (given_back answer) 0) (λ call answer. given_back answer)
+    (λ s call answer s' one below. withdrawn_of_all_numbers bound s call answer s' one (omega arith)) start trace end run (omega arith) in
     omega (
       arith,
-      units_of_all_numbers bound m.waiting sound.each_once (omega arith),
-      units_of_all_numbers bound last (run_sound table start trace end run sound).each_once (omega arith),
-      sum_both (units_in m.waiting) (λ n. accepted n trace) bound,
+      units_of_all_numbers bound start.queue.waiting sound.each_once (omega arith),
+      units_of_all_numbers bound last (run_sound start trace end run sound).each_once (omega arith),
+      sum_both (units_in start.queue.waiting) (λ n. accepted n trace) bound,
       sum_both (λ n. served n trace + withdrawn n trace) (units_in last) bound,
       sum_both (λ n. served n trace) (λ n. withdrawn n trace) bound,
-      sum_same (λ n. units_in m.waiting n + accepted n trace) (λ n. served n trace + withdrawn n trace + units_in last n) bound
-          (λ n h. accounts_kept table start trace end run sound n),
+      sum_same (λ n. units_in start.queue.waiting n + accepted n trace) (λ n. served n trace + withdrawn n trace + units_in last n) bound
+          (λ n h. accounts_kept start trace end run sound n),
     )

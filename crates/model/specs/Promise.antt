@@ -1,10 +1,11 @@
--- The run promise: what holds of every run of the machine from its fresh state, over any queue.
+-- The run promise: what holds of every run of the machine, over any queue.
 use Rattle.std.specs.Prelude.{◌≡◌, ℕ, ◌+◌, ◌≤◌, Bool, true, false, ◌⊎◌, List, ◌∷◌, ◌++◌}
 use Rattle.model.specs.Futures.{Safe}
-use Rattle.model.specs.Machine.{State, Step, fresh, waits}
+use Rattle.model.specs.Kept.{Keeps}
+use Rattle.model.specs.Machine.{State, Step, later, waits}
 use Rattle.model.specs.Queues.{Meaning, Sound, units_in}
 use Rattle.model.specs.Runs.{Run, Trace, ticks, row_ticks, dones, accepted, served, withdrawn, until_release}
-use Rattle.model.specs.Table.{admitted, duty_at}
+use Rattle.model.specs.Table.{duty_at}
 use Rattle.model.specs.declared.calls.Answer.TheVariants.{Accepted, Ticked}
 use Rattle.model.specs.declared.calls.Call.TheVariants.{Release, Tick}
 use Rattle.model.specs.declared.calls.Who.{Who}
@@ -17,12 +18,12 @@ Finished table i part = ((duty_at table i).cost ≤ row_ticks i part) ⊎ (1 ≤
 
 -- Deadlines: whenever as many ticks as the deadline says have passed since an accepted release, the job has
 -- had all its ticks or was called done, before its row's next accepted release.
-abbrev pub Deadlines : List Duty → Trace → Type 0
-Deadlines table trace =
+abbrev pub Deadlines : State → Trace → Type 0
+Deadlines start trace =
     (before during after : Trace) (i : ℕ)
     → trace ≡ before ++ (Release i, Accepted) ∷ (during ++ after)
-    → (duty_at table i).deadline ≤ ticks during
-    → Finished table i (until_release i during)
+    → (duty_at start.work.table i).deadline ≤ ticks during
+    → Finished start.work.table i (until_release i during)
 
 abbrev pub is_errand : Who → Bool
 is_errand Nobody = false
@@ -31,16 +32,15 @@ is_errand (ForErrand n) = true
 
 -- Spare ticks: an accepted tick before which an errand waited went to an errand exactly when no lawful future
 -- misses, from the rows as they were and the clock raised by 1.
-abbrev pub SpareTicks : List Duty → Meaning → Trace → State → Type 0
-SpareTicks table m trace end =
+abbrev pub SpareTicks : State → Trace → State → Type 0
+SpareTicks start trace end =
     (before after : Trace) (s s' : State) (slack : ℕ) (who : Who)
     → trace ≡ before ++ (Tick, Ticked slack who) ∷ after
-    → Run table (fresh table m) before s
-    → Step table s Tick (Ticked slack who) s'
-    → Run table s' after end
+    → Run start before s
+    → Step s Tick (Ticked slack who) s'
+    → Run s' after end
     → waits s.queue ≡ true
-    → (is_errand who ≡ true → Safe table (s.clock + 1) s.rows)
-    × (Safe table (s.clock + 1) s.rows → is_errand who ≡ true)
+    → (is_errand who ≡ true → Safe (later s.work)) × (Safe (later s.work) → is_errand who ≡ true)
 
 -- Accounts: for each errand number, the units held at the start and accepted since are the ticks that it had,
 -- the units withdrawn and the units still waiting.
@@ -50,17 +50,18 @@ Accounts m trace m' =
     → units_in m.waiting n + accepted n trace ≡ served n trace + withdrawn n trace + units_in m'.waiting n
 
 -- The run promise, whole.
-pub record Promise (table : List Duty) (m : Meaning) (trace : Trace) (end : State) : Type 0 where
-  pub follows : Run table (fresh table m) trace end
-  pub deadlines : Deadlines table trace
-  pub spare_ticks : SpareTicks table m trace end
-  pub accounts : Accounts m trace end.queue
+pub record Promise (start : State) (trace : Trace) (end : State) : Type 0 where
+  pub follows : Run start trace end
+  pub deadlines : Deadlines start trace
+  pub spare_ticks : SpareTicks start trace end
+  pub accounts : Accounts start.queue trace end.queue
 
--- It holds of every run over an admitted table, whatever the queue holds at the start.
+-- It holds of every run from any state whose work is kept over an admitted table, whatever the queue holds at the
+-- start. A fresh state over an admitted table is one: see `Always`.
 abbrev pub EveryRunKeepsThePromise : Type 0
 EveryRunKeepsThePromise =
-    (table : List Duty) (m : Meaning) (trace : Trace) (end : State)
-    → admitted table ≡ true
-    → Sound m
-    → Run table (fresh table m) trace end
-    → Promise table m trace end
+    (start : State) (trace : Trace) (end : State)
+    → Keeps start.work
+    → Sound start.queue
+    → Run start trace end
+    → Promise start trace end

@@ -7,7 +7,6 @@ use Rattle.model.specs.declared.calls.Call.{Call}
 use Rattle.model.specs.declared.calls.Call.TheVariants.{Release, Done, Request, Withdraw, Slack, Tick}
 use Rattle.model.specs.declared.calls.Who.{Who}
 use Rattle.model.specs.declared.calls.Who.TheVariants.{Nobody, Duty as ForDuty, Errand as ForErrand}
-use Rattle.model.specs.declared.duties.Duty.{Duty}
 
 -- Calls with their answers, the oldest first.
 abbrev pub Trace : Type 0
@@ -18,10 +17,10 @@ abbrev pub called : Trace → List Call
 called = map (λ (x : Call × Answer). x.0)
 
 -- The machine goes from one state to another by these calls with these answers.
-pub data Run (table : List Duty) : State → Trace → State → Type 0 where
-  stay : {s : State} → Run table s [] s
+pub data Run : State → Trace → State → Type 0 where
+  stay : {s : State} → Run s [] s
   step : {s s' end : State} {call : Call} {answer : Answer} {rest : Trace}
-      → Step table s call answer s' → Run table s' rest end → Run table s ((call, answer) ∷ rest) end
+      → Step s call answer s' → Run s' rest end → Run s ((call, answer) ∷ rest) end
 
 -- The sum of what f says of each call with its answer.
 abbrev pub total : (Call → Answer → ℕ) → Trace → ℕ
