@@ -28,11 +28,6 @@ use Rattle.model.proofs.Stepping.{step_clock, step_keeps, run_keeps, run_split, 
 use Rattle.model.proofs.Ticks.{turn_cases}
 use Rattle.model.proofs.Timely.{ready_inside, kept_before_due}
 
--- Whatever a row was, a release gives it the new job.
-release_after : (duty : Duty) (clock : ℕ) (row : Row) → row_after duty clock row RowRelease ≡ released duty clock
-release_after duty clock (Idle e) = refl
-release_after duty clock (Ready c d e) = refl
-
 -- Row j after a call to it.
 abbrev row_then : Work → ℕ → RowCall → Row
 row_then w j call = row_after (duty_at w.table j) w.clock (row_at w.rows j) call
@@ -179,8 +174,7 @@ released_now :
 released_now s s' i (Ok x, answered, (accepted, then), queue-stays) = (
   rw then refl,
   rw then
-      (get_or-set_same s.work.rows i (row_then s.work i RowRelease) no_row (call_accepted s.work i RowRelease accepted).0
-      ∙ release_after (duty_at s.work.table i) s.work.clock (row_at s.work.rows i)),
+      (get_or-set_same s.work.rows i (row_then s.work i RowRelease) no_row (call_accepted s.work i RowRelease accepted).0),
 )
 released_now s s' i (Err why, answered, refused, queue-stays) = absurd (let z : ◌≡◌ {A = ℕ} 0 1 = cc in omega arith)
 

@@ -176,7 +176,7 @@ module _ (i end : ℕ) where
           (λ allowed. (
             set w.rows k row,
             release_overloaded w k e over within at allowed,
-            rw (get_or-set_same w.rows k row no_row (omega (arith, over.numbers.same_length))) (rw at tt),
+            rw (get_or-set_same w.rows k row no_row (omega (arith, over.numbers.same_length))) tt,
             λ j other. get_or-set_other w.rows k j row no_row other,
             release_first w k (release_accepted w k e over within at allowed),
           ))

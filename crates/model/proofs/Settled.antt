@@ -157,6 +157,9 @@ served_alike None m n m' n' who who' like agree (k, is, (named, (e, found, chang
 served_alike (Some had) m n m' n' who who' like agree (is, stays) (is', stays') =
     (is ∙ sym is', like_moved m n m' n' stays stays' like)
 
+same_pair : (slack slack' : ℕ) (who who' : Who) → slack ≡ slack' → who ≡ who' → ◌≡◌ {A = Result (ℕ × Who) Refusal} (Ok (slack, who)) (Ok (slack', who'))
+same_pair slack slack' who who' p q = cc
+
 tick_alike :
     (s t s' t' : State) (r r' : Result (ℕ × Who) Refusal) → Alike s t
     → ((slack n slack' n' : ℕ) → r ≡ Ok (slack, ForErrand n) → r' ≡ Ok (slack', ForErrand n') → n ≡ n')
@@ -176,10 +179,8 @@ tick_alike s t s' t' (Ok (slack, who)) (Ok (slack', who')) alike agree
     served_alike turn s.queue t.queue s'.queue t'.queue who who' alike.queue
     (λ n n' p p'. agree slack n slack' n' (ap (λ (w : Who). Ok (slack, w)) p) (ap (λ (w : Who). Ok (slack', w)) p')) served
     (subst (λ (o : Option Who). ServedOrLeft o t.queue who' t'.queue) (sym turns) served') in
-    let same : slack ≡ slack' = is ∙ ap slack_of alike.work ∙ sym is' in (
-      ap (λ (k : ℕ). Ok (k, who)) same ∙ ap (λ (w : Who). Ok (slack', w)) had,
-      record { work = after; queue = like },
-    )
+    let same : slack ≡ slack' = is ∙ ap slack_of alike.work ∙ sym is' in
+    (same_pair slack slack' who who' same had, record { work = after; queue = like })
 tick_alike s t s' t' (Ok answer) (Err why) alike agree (turn, (room, is, used), served) ((ended, number, stays), queue-stays) =
     absurd (omega (arith, room, ended, ap (λ (w : Work). w.clock) alike.work))
 tick_alike s t s' t' (Err why) (Ok answer) alike agree ((ended, number, stays), queue-stays) (turn, (room, is, used), served) =

@@ -8,11 +8,11 @@ use Rattle.model.specs.Queues.{look, units_in, distinct}
 use Rattle.model.specs.Runs.{Run, stay, step, Trace, total, was_accepted, of_tick, errand_had, given_back, asked_for, is_withdraw, accepted, served, withdrawn}
 use Rattle.model.specs.Totals.{asked, any_errand_had, total_accepted, total_served, total_withdrawn, total_units, TotalsBalance}
 use Rattle.model.specs.declared.calls.Answer.{Answer}
-use Rattle.model.specs.declared.calls.Answer.TheVariants.{Accepted, Withdrawn, Slack as SlackIs, Ticked, Refused}
+use Rattle.model.specs.declared.calls.Answer.TheVariants.{Ticked}
 use Rattle.model.specs.declared.calls.Call.{Call}
 use Rattle.model.specs.declared.calls.Call.TheVariants.{Release, Done, Request, Withdraw, Slack, Tick}
 use Rattle.model.specs.declared.calls.Who.{Who}
-use Rattle.model.specs.declared.calls.Who.TheVariants.{Nobody, Duty as ForDuty, Errand as ForErrand}
+use Rattle.model.specs.declared.calls.Who.TheVariants.{Errand as ForErrand}
 use Rattle.model.specs.declared.errands.Errand.{Errand}
 use Rattle.model.proofs.Accounts.{units_looked_up, accounts_kept, run_sound}
 use Rattle.model.proofs.Weights.{list_bound, total_weight, under_one_number, weight_of, weight_of_all_numbers}
@@ -20,17 +20,13 @@ use Rattle.model.proofs.Sums.{sum_to, sum_none, sum_same, sum_both}
 
 -- Above the errand number that a call, an answer's tick, a run or a list has. A sum of such bounds is above each.
 abbrev call_bound : Call → ℕ
-call_bound (Release i) = 0
-call_bound (Done i) = 0
 call_bound (Request e) = suc e.number
 call_bound (Withdraw n) = suc n
-call_bound Slack = 0
-call_bound Tick = 0
+call_bound call = 0
 
 abbrev who_bound : Who → ℕ
-who_bound Nobody = 0
-who_bound (ForDuty i) = 0
 who_bound (ForErrand n) = suc n
+who_bound who = 0
 
 abbrev step_bound : Call → Answer → ℕ
 step_bound call answer = call_bound call + of_tick who_bound answer
@@ -52,12 +48,8 @@ module _ (bound : ℕ) where
 
   -- What a call asks for all numbers is what it asks; where it was refused that is nothing.
   asked_of_all_numbers : (call : Call) → call_bound call ≤ bound → sum_to (λ n. asked_for n call) bound ≡ asked call
-  asked_of_all_numbers (Release i) below = sum_zero
-  asked_of_all_numbers (Done i) below = sum_zero
   asked_of_all_numbers (Request e) below = under_one_number bound e.number e.units below
-  asked_of_all_numbers (Withdraw n) below = sum_zero
-  asked_of_all_numbers Slack below = sum_zero
-  asked_of_all_numbers Tick below = sum_zero
+  asked_of_all_numbers call below = sum_zero
 
   accepted_of_all_numbers :
       (yes : Bool) (call : Call) → call_bound call ≤ bound → sum_to (λ n. cond yes (asked_for n call) 0) bound ≡ cond yes (asked call) 0
@@ -66,17 +58,13 @@ module _ (bound : ℕ) where
 
   -- A tick that some number had is one that an errand had.
   had_of_all_numbers : (who : Who) → who_bound who ≤ bound → sum_to (λ n. errand_had n who) bound ≡ any_errand_had who
-  had_of_all_numbers Nobody below = sum_zero
-  had_of_all_numbers (ForDuty i) below = sum_zero
   had_of_all_numbers (ForErrand k) below = under_one_number bound k 1 below
+  had_of_all_numbers who below = sum_zero
 
   served_of_all_numbers :
       (answer : Answer) → of_tick who_bound answer ≤ bound → sum_to (λ n. of_tick (errand_had n) answer) bound ≡ of_tick any_errand_had answer
-  served_of_all_numbers Accepted below = sum_zero
-  served_of_all_numbers (Withdrawn units) below = sum_zero
-  served_of_all_numbers (SlackIs k) below = sum_zero
   served_of_all_numbers (Ticked k who) below = had_of_all_numbers who below
-  served_of_all_numbers (Refused why) below = sum_zero
+  served_of_all_numbers answer below = sum_zero
 
   -- Units come back by a withdraw alone, under its number.
   withdrawn_of_all_numbers :

@@ -18,9 +18,8 @@ row_kept clock duty (Ready c d e) =
 -- Each row's numbers are kept, and there is a state for each row.
 abbrev pub rows_kept : ℕ → List Duty → List Row → Bool
 rows_kept clock [] [] = true
-rows_kept clock [] (row ∷ rows) = false
-rows_kept clock (duty ∷ table) [] = false
 rows_kept clock (duty ∷ table) (row ∷ rows) = row_kept clock duty row && rows_kept clock table rows
+rows_kept clock table rows = false
 
 -- `ticks` from the clock on cover the demand of row i, by the early reckoning, and r ticks more.
 abbrev pub covers : Work → ℕ → ℕ → ℕ → Bool

@@ -57,19 +57,15 @@ abbrev pub row_refusal : ℕ → Row → RowCall → List ℕ
 row_refusal clock (Idle e) RowRelease = cond (nat_lt clock e) (5 ∷ []) []
 row_refusal clock (Ready c d e) RowRelease = cond (nat_lt clock e) (5 ∷ []) []
 row_refusal clock (Idle e) RowDone = 6 ∷ []
-row_refusal clock (Ready c d e) RowDone = []
-row_refusal clock (Idle e) RowRun = []
-row_refusal clock (Ready c d e) RowRun = []
+row_refusal clock row call = []
 
 -- What an accepted call makes of a row. One tick of work takes one unit, and the job ends with its last; its
 -- end, either way, keeps the earliest release.
 abbrev pub row_after : Duty → ℕ → Row → RowCall → Row
-row_after duty clock (Idle e) RowRelease = released duty clock
-row_after duty clock (Ready c d e) RowRelease = released duty clock
-row_after duty clock (Idle e) RowDone = Idle e
+row_after duty clock row RowRelease = released duty clock
 row_after duty clock (Ready c d e) RowDone = Idle e
-row_after duty clock (Idle e) RowRun = Idle e
 row_after duty clock (Ready c d e) RowRun = cond (nat_le c 1) (Idle e) (Ready (pred c) d e)
+row_after duty clock row call = row
 
 -- What refuses a call to row i: 1, there is no such row; else what its state refuses.
 abbrev pub call_refusal : Work → ℕ → RowCall → List ℕ
@@ -82,8 +78,8 @@ after_call w i call =
     with_rows w (slice_set w.rows i (row_after (duty_at w.table i) w.clock (row_at w.rows i) call))
 
 abbrev pub is_ready : Row → Bool
-is_ready (Idle e) = false
 is_ready (Ready c d e) = true
+is_ready row = false
 
 abbrev pub ready_at : List Row → ℕ → Bool
 ready_at rows i = is_ready (row_at rows i)

@@ -9,7 +9,7 @@ use Rattle.model.specs.Table.{duty_at}
 use Rattle.model.specs.declared.calls.Answer.TheVariants.{Accepted, Ticked}
 use Rattle.model.specs.declared.calls.Call.TheVariants.{Release, Tick}
 use Rattle.model.specs.declared.calls.Who.{Who}
-use Rattle.model.specs.declared.calls.Who.TheVariants.{Nobody, Duty as ForDuty, Errand as ForErrand}
+use Rattle.model.specs.declared.calls.Who.TheVariants.{Errand as ForErrand}
 use Rattle.model.specs.declared.duties.Duty.{Duty}
 
 -- The job of row i that this part of a list follows has had all its ticks, or was called done.
@@ -26,9 +26,8 @@ Deadlines start trace =
     → Finished start.work.table i (until_release i during)
 
 abbrev pub is_errand : Who → Bool
-is_errand Nobody = false
-is_errand (ForDuty i) = false
 is_errand (ForErrand n) = true
+is_errand who = false
 
 -- Spare ticks: an accepted tick before which an errand waited went to an errand exactly when no lawful future
 -- misses, from the rows as they were and the clock raised by 1.

@@ -33,9 +33,8 @@ distinct (e ∷ es) = errand_within e && not (is_some (look es e.number)) && dis
 -- A queue names some errand exactly when one waits, and then one that waits.
 abbrev pub names_right : List Errand → Option ℕ → Bool
 names_right [] None = true
-names_right [] (Some n) = false
-names_right (e ∷ es) None = false
 names_right (e ∷ es) (Some n) = is_some (look (e ∷ es) n)
+names_right es named = false
 
 -- The meanings that a queue can have.
 pub record Sound (m : Meaning) : Type 0 where

@@ -15,8 +15,8 @@ next_release from (Ready c d e) = e
 
 -- The units left of the row's job, 0 where it has none.
 abbrev pub left_of : Row → ℕ
-left_of (Idle e) = 0
 left_of (Ready c d e) = c
+left_of row = 0
 
 -- What one row can ask of the processor up to the clock x: what is left of its job, and a whole job for each
 -- release that can come before x.
@@ -25,9 +25,8 @@ need from duty row x = left_of row + duty.cost * ceil (x - next_release from row
 
 -- What the rows can ask of the processor up to the clock x, all together.
 abbrev pub demand : ℕ → List Duty → List Row → ℕ → ℕ
-demand from [] rows x = 0
-demand from (duty ∷ table) [] x = 0
 demand from (duty ∷ table) (row ∷ rows) x = need from duty row x + demand from table rows x
+demand from table rows x = 0
 
 -- The demand of row i up to the clock x: that of rows 0 to i.
 abbrev pub demand_at : ℕ → List Duty → List Row → ℕ → ℕ → ℕ

@@ -5,25 +5,20 @@ use Rattle.model.specs.Machine.{State}
 use Rattle.model.specs.Queues.{Sound}
 use Rattle.model.specs.Runs.{Run, Trace, total, was_accepted, of_tick, given_back}
 use Rattle.model.specs.declared.calls.Call.{Call}
-use Rattle.model.specs.declared.calls.Call.TheVariants.{Release, Done, Request, Withdraw, Slack, Tick}
+use Rattle.model.specs.declared.calls.Call.TheVariants.{Request}
 use Rattle.model.specs.declared.calls.Who.{Who}
-use Rattle.model.specs.declared.calls.Who.TheVariants.{Nobody, Duty as ForDuty, Errand as ForErrand}
+use Rattle.model.specs.declared.calls.Who.TheVariants.{Errand as ForErrand}
 use Rattle.model.specs.declared.errands.Errand.{Errand}
 
 -- The units that the call requests, for whichever errand.
 abbrev pub asked : Call → ℕ
-asked (Release i) = 0
-asked (Done i) = 0
 asked (Request e) = e.units
-asked (Withdraw n) = 0
-asked Slack = 0
-asked Tick = 0
+asked call = 0
 
 -- A tick that an errand had, whichever.
 abbrev pub any_errand_had : Who → ℕ
-any_errand_had Nobody = 0
-any_errand_had (ForDuty i) = 0
 any_errand_had (ForErrand n) = 1
+any_errand_had who = 0
 
 -- Units of all accepted requests; ticks that answered an errand; units that accepted withdraws answered.
 abbrev pub total_accepted : Trace → ℕ
