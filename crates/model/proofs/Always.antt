@@ -1,11 +1,11 @@
 -- The kept invariant at all times.
 use Rattle.model.specs.Always.{KeptAlways}
 use Rattle.model.proofs.Accounts.{run_sound}
-use Rattle.model.proofs.Covering.{fresh_keeps}
 use Rattle.model.proofs.Futures.{slack_safe}
-use Rattle.model.proofs.Missing.{safe_slack}
-use Rattle.model.proofs.Stepping.{step_keeps, run_keeps, run_table, run_clock}
-use Rattle.model.proofs.Timely.{kept_not_overdue, kept_slack, kept_window}
+use Rattle.model.proofs.Kept.{kept_not_overdue, kept_slack, kept_window}
+use Rattle.model.proofs.Overload.{safe_slack}
+use Rattle.model.proofs.Spare.{fresh_keeps}
+use Rattle.model.proofs.Steps.{step_keeps, run_keeps, run_table, run_clock}
 
 pub kept_always : KeptAlways
 kept_always =

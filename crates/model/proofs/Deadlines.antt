@@ -1,13 +1,13 @@
 -- Deadlines, read off the list of calls and answers: a job is followed from its release on, and as long as it has
 -- neither had all its ticks nor been called done its row has it, so that the clock lies before its deadline.
-use Rattle.std.proofs.Common.{◌≡◌, ℕ, pred, ◌+◌, ◌<◌, ◌≤◌, Bool, true, false, cond, ◌&&◌, eqb, leb, ◌⊎◌, List, [], ◌∷◌, ◌++◌, length, Some, None, Ok, Err, Option, sym, refl, ap, ◌∙◌, inl, inr, ⊎_elim, arith}
+use Rattle.std.proofs.Common.{◌≡◌, ℕ, pred, ◌+◌, ◌<◌, ◌≤◌, Bool, true, false, cond, ◌&&◌, ◌==◌, nat_le, ◌⊎◌, List, [], ◌∷◌, ◌++◌, length, Some, None, Ok, Err, Option, sym, refl, ap, ◌∙◌, inl, inr, ⊎_elim, arith}
 use Rattle.std.proofs.lemmas.List.{get_or-set_same, get_or-set_other}
 use Rattle.std.proofs.lemmas.Bool.{cases_Bool, cases_eq, and_left, and_right, eq-eqb, ne_eqb, leb-true, cond-true, cond-false}
+use Rattle.model.specs.Demand.{row_at, no_row}
 use Rattle.model.specs.Kept.{Keeps}
 use Rattle.model.specs.Machine.{Work, State, Step, SparedOrRun, ServedOrLeft, released, row_after, after_call, call_refusal, duty_tick, duty_turn, errand_due, waits}
 use Rattle.model.specs.Promise.{Deadlines}
 use Rattle.model.specs.Queues.{Meaning}
-use Rattle.model.specs.Reckoning.{row_at, no_row}
 use Rattle.model.specs.Runs.{Run, stay, step, Trace, was_accepted, of_tick, row_had, is_release, is_done, ticks, row_ticks, dones, until_release}
 use Rattle.model.specs.Table.{duty_at}
 use Rattle.model.specs.declared.calls.Answer.{Answer}
@@ -21,12 +21,12 @@ use Rattle.model.specs.declared.rows.Row.{Row}
 use Rattle.model.specs.declared.rows.Row.TheVariants.{Idle, Ready}
 use Rattle.model.specs.declared.rows.RowCall.{RowCall}
 use Rattle.model.specs.declared.rows.RowCall.TheVariants.{Release as RowRelease, Done as RowDone, Run as RowRun}
-use Rattle.model.proofs.Accepting.{call_accepted, release_allowed}
 use Rattle.model.proofs.Admitted.{admitted_limits}
-use Rattle.model.proofs.Keeping.{kept_gives}
-use Rattle.model.proofs.Stepping.{step_clock, step_keeps, run_keeps, run_split, run_first, run_table}
+use Rattle.model.proofs.Invariant.{kept_gives}
+use Rattle.model.proofs.Kept.{ready_inside, kept_before_due}
+use Rattle.model.proofs.RowCalls.{call_accepted, release_allowed}
+use Rattle.model.proofs.Steps.{step_clock, step_keeps, run_keeps, run_split, run_first, run_table}
 use Rattle.model.proofs.Ticks.{turn_cases}
-use Rattle.model.proofs.Timely.{ready_inside, kept_before_due}
 
 -- Row j after a call to it.
 abbrev row_then : Work → ℕ → RowCall → Row
@@ -72,7 +72,7 @@ module _ (i c d e : ℕ) where
     -- Row i itself has the tick.
     followed_work : (slack : ℕ) → Followed Tick (Ticked slack (ForDuty i)) (after_call w i RowRun).rows
     followed_work slack =
-        let had : row_had i (ForDuty i) ≡ 1 = cond-true (eqb i i) 1 0 (eq-eqb i i refl) in
+        let had : row_had i (ForDuty i) ≡ 1 = cond-true (i == i) 1 0 (eq-eqb i i refl) in
         let now : row_at (after_call w i RowRun).rows i ≡ row_after (duty_at w.table i) w.clock (Ready c d e) RowRun =
         get_or-set_same w.rows i (row_then w i RowRun) no_row (ready_inside w.rows i c d e at)
         ∙ ap (λ row. row_after (duty_at w.table i) w.clock row RowRun) at in
@@ -81,8 +81,8 @@ module _ (i c d e : ℕ) where
           job_then =
               ⊎_elim
               (λ last. inl (omega (arith, leb-true c 1 last)))
-              (λ more. inr (inr (pred c, now ∙ cond-false (leb c 1) (Idle e) (Ready (pred c) d e) more, omega arith)))
-              (cases_Bool (leb c 1));
+              (λ more. inr (inr (pred c, now ∙ cond-false (nat_le c 1) (Idle e) (Ready (pred c) d e) more, omega arith)))
+              (cases_Bool (nat_le c 1));
         }
 
     -- A tick that goes as if no errand waited.
@@ -115,10 +115,10 @@ module _ (i c d e : ℕ) where
   followed s (Release j) answer s' (Ok x, answered, (accepted, then), queue-stays) keeps at =
       let other = released_other s.work keeps at j accepted in
       left_alone (Release j) answer s'.work.rows
-      (and_left (eqb j i) (was_accepted answer) (ne_eqb j i other))
+      (and_left (j == i) (was_accepted answer) (ne_eqb j i other))
       (rw then (other_row s.work keeps at j RowRelease other))
   followed s (Release j) answer s' (Err why, answered, (refused, same), queue-stays) keeps at =
-      left_alone (Release j) answer s'.work.rows (and_right (eqb j i) (was_accepted answer) (rw answered)) (rw same at)
+      left_alone (Release j) answer s'.work.rows (and_right (j == i) (was_accepted answer) (rw answered)) (rw same at)
   followed s (Done j) answer s' (Ok x, answered, (accepted, then), queue-stays) keeps at =
       ⊎_elim
       (λ same. record {
@@ -129,14 +129,14 @@ module _ (i c d e : ℕ) where
       (cases_eq j i)
   followed s (Done j) answer s' (Err why, answered, (refused, same), queue-stays) keeps at =
       left_alone (Done j) answer s'.work.rows refl (rw same at)
-  followed s (Request errand) answer s' (r, answered, put, same) keeps at =
+  followed s (Request errand) answer s' (r, answered, (put, same)) keeps at =
       left_alone (Request errand) answer s'.work.rows refl (rw same at)
-  followed s (Withdraw n) answer s' (r, answered, taken, same) keeps at =
+  followed s (Withdraw n) answer s' (r, answered, (taken, same)) keeps at =
       left_alone (Withdraw n) answer s'.work.rows refl (rw same at)
   followed s Slack answer s' (answered, same) keeps at = left_alone Slack answer s'.work.rows refl (rw same at)
-  followed s Tick answer s' (Ok told, answered, (turn, (room, slack-is, used), served)) keeps at =
+  followed s Tick answer s' (Ok pair, answered, (turn, (room, slack-is, used), served)) keeps at =
       rw answered
-      (followed_tick s.work keeps at (errand_due s.work (waits s.queue)) turn s.queue s'.queue told.0 told.1 s'.work used served)
+      (followed_tick s.work keeps at (errand_due s.work (waits s.queue)) turn s.queue s'.queue pair.0 pair.1 s'.work used served)
   followed s Tick answer s' (Err why, answered, ((ended, refused, same), queue-stays)) keeps at =
       left_alone Tick answer s'.work.rows refl (rw same at)
 

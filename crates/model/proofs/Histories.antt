@@ -12,7 +12,7 @@ use Rattle.model.specs.declared.calls.Call.{Call}
 use Rattle.model.specs.declared.calls.Call.TheVariants.{Tick}
 use Rattle.model.specs.declared.calls.Who.{Who}
 use Rattle.model.specs.declared.calls.Who.TheVariants.{Errand as ForErrand}
-use Rattle.model.proofs.Sparing.{no_errand}
+use Rattle.model.proofs.SpareTicks.{no_errand}
 
 -- The errand that has a tick is the one that the queue named.
 turn_named :
@@ -27,8 +27,8 @@ turn_named false w (Some who) m m' n w' (worked, then) (had, queue-stays) =
 
 tick_named :
     (s : State) (slack n : ℕ) (s' : State) → Step s Tick (Ticked slack (ForErrand n)) s' → s.queue.named ≡ Some n
-tick_named s slack n s' (Ok told, answered, (turn, (room, slack-is, used), served)) =
-    let same : told.1 ≡ ForErrand n = cc in
+tick_named s slack n s' (Ok pair, answered, (turn, (room, slack-is, used), served)) =
+    let same : pair.1 ≡ ForErrand n = cc in
     turn_named (errand_due s.work (waits s.queue)) s.work turn s.queue s'.queue n s'.work used
     (subst (λ (who : Who). ServedOrLeft turn s.queue who s'.queue) same served)
 tick_named s slack n s' (Err why, answered, refused) =

@@ -2,7 +2,7 @@
 use Rattle.model.specs.Promise.{EveryRunKeepsThePromise}
 use Rattle.model.proofs.Accounts.{accounts_kept}
 use Rattle.model.proofs.Deadlines.{deadlines_kept}
-use Rattle.model.proofs.Sparing.{ticks_spared}
+use Rattle.model.proofs.SpareTicks.{ticks_spared}
 
 pub every_run_keeps_the_promise : EveryRunKeepsThePromise
 every_run_keeps_the_promise start trace end keeps sound run =

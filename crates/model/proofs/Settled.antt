@@ -1,12 +1,12 @@
 -- Two runs of the same calls, in step: as long as the same errands had the ticks, the answers are the same, and the states differ in
 -- no more than the order in which the errands that wait are listed and the one that is named.
-use Rattle.std.proofs.Common.{◌≡◌, ℕ, ◌+◌, Bool, true, false, cond, not, leb, List, [], ◌∷◌, ◌++◌, length, is_some, Some, None, Ok, Err, Option, Result, sym, refl, ap, ◌∙◌, subst, ⊎_elim, append_assoc, arith}
+use Rattle.std.proofs.Common.{◌≡◌, ℕ, ◌+◌, Bool, true, false, cond, not, nat_le, List, [], ◌∷◌, ◌++◌, length, is_some, Some, None, Ok, Err, Option, Result, sym, refl, ap, ◌∙◌, subst, ⊎_elim, append_assoc, arith}
 use Rattle.std.proofs.lemmas.Bool.{cases_eq}
 use Rattle.model.specs.Histories.{Choice, Chosen, History, by_call, history}
 use Rattle.model.specs.Machine.{Work, State, Step, RowCalled, ServedOrLeft, SparedOrRun, Ticks, call_refusal, errand_due, plain_answer, slack_of, tick_answer, units_answer, waits}
 use Rattle.model.specs.Queues.{Changes, Meaning, Put, Sound, Take, errand_within, look, one_less, put_refusal}
-use Rattle.model.specs.Refusals.{told}
-use Rattle.model.specs.Runs.{Run, Trace, called, stay, step}
+use Rattle.model.specs.Refusals.{refusal_code}
+use Rattle.model.specs.Runs.{Run, Trace, calls_in, stay, step}
 use Rattle.model.specs.Settled.{ChoiceSettlesRuns}
 use Rattle.model.specs.declared.calls.Answer.{Answer}
 use Rattle.model.specs.declared.calls.Answer.TheVariants.{Slack as SlackIs, Ticked}
@@ -18,12 +18,12 @@ use Rattle.model.specs.declared.errands.Errand.{Errand}
 use Rattle.model.specs.declared.refusals.Refusal.{Refusal}
 use Rattle.model.specs.declared.rows.RowCall.{RowCall}
 use Rattle.model.specs.declared.rows.RowCall.TheVariants.{Release as RowRelease, Done as RowDone}
+use Rattle.model.proofs.RefusalCodes.{refusal_code_apart, refusal_code_some}
 use Rattle.model.proofs.Sums.{sum_same}
-use Rattle.model.proofs.Told.{told_apart, told_some}
 use Rattle.model.proofs.Weights.{list_bound, total_weight, weight_of, weight_of_all_numbers}
 
 -- Queues that hold the same errands.
-record Like (m n : Meaning) : Type 0 where
+record SameErrands (m n : Meaning) : Type 0 where
   looks : (k : ℕ) → look m.waiting k ≡ look n.waiting k
   places : m.places ≡ n.places
   sound : Sound m
@@ -34,8 +34,8 @@ counted : (es : List Errand) → total_weight (λ _. 1) es ≡ length es
 counted [] = refl
 counted (e ∷ es) = omega (arith, counted es)
 
-like_length : (m n : Meaning) → Like m n → length m.waiting ≡ length n.waiting
-like_length m n like =
+same_errands_length : (m n : Meaning) → SameErrands m n → length m.waiting ≡ length n.waiting
+same_errands_length m n like =
     let one : Errand → ℕ = λ _. 1 in
     let bound = list_bound m.waiting + list_bound n.waiting in
     omega (
@@ -55,12 +55,12 @@ waits_by_length [] (f ∷ fs) m n p q h = absurd (omega (arith, h))
 waits_by_length (e ∷ es) [] m n p q h = absurd (omega (arith, h))
 waits_by_length (e ∷ es) (f ∷ fs) m n p q h = cc
 
-like_waits : (m n : Meaning) → Like m n → waits m ≡ waits n
-like_waits m n like = waits_by_length m.waiting n.waiting m n refl refl (like_length m n like)
+same_errands_waits : (m n : Meaning) → SameErrands m n → waits m ≡ waits n
+same_errands_waits m n like = waits_by_length m.waiting n.waiting m n refl refl (same_errands_length m n like)
 
-like_changes : (m n m' n' : Meaning) (k : ℕ) (o o' : Option Errand) → Like m n → o ≡ o' → Changes m k o m' → Changes n k o' n' →
-    Like m' n'
-like_changes m n m' n' k o o' like same change change' =
+same_errands_changes : (m n m' n' : Meaning) (k : ℕ) (o o' : Option Errand) → SameErrands m n → o ≡ o' → Changes m k o m' → Changes n k o' n' →
+    SameErrands m' n'
+same_errands_changes m n m' n' k o o' like same change change' =
     record {
       looks = λ j.
           ⊎_elim (λ (is : j ≡ k). subst (λ i. look m'.waiting i ≡ look n'.waiting i) (sym is) (change.here ∙ same ∙ sym change'.here))
@@ -71,25 +71,25 @@ like_changes m n m' n' k o o' like same change change' =
       sound' = change'.sound;
     }
 
-like_moved : (m n m' n' : Meaning) → m' ≡ m → n' ≡ n → Like m n → Like m' n'
-like_moved m n m' n' p q like = subst (λ k. Like k n') (sym p) (subst (λ k. Like m k) (sym q) like)
+same_errands_moved : (m n m' n' : Meaning) → m' ≡ m → n' ≡ n → SameErrands m n → SameErrands m' n'
+same_errands_moved m n m' n' p q like = subst (λ k. SameErrands k n') (sym p) (subst (λ k. SameErrands m k) (sym q) like)
 
 -- States that differ in no more than how their queues hold the same errands, and in which of them those name.
 record Alike (s t : State) : Type 0 where
   work : s.work ≡ t.work
-  queue : Like s.queue t.queue
+  queue : SameErrands s.queue t.queue
 
 alike_moved : (s t s' t' : State) → s' ≡ s → t' ≡ t → Alike s t → Alike s' t'
 alike_moved s t s' t' p q alike = subst (λ k. Alike k t') (sym p) (subst (λ k. Alike s k) (sym q) alike)
 
 -- What is refused in the one is refused in the other, for the same reason.
-not_refused : {A : Type 0} (r r' : List ℕ) (why : Refusal) → r ≡ r' → r ≡ [] → r' ≡ told why → A
+not_refused : {A : Type 0} (r r' : List ℕ) (why : Refusal) → r ≡ r' → r ≡ [] → r' ≡ refusal_code why → A
 not_refused r r' why same none some =
-    let (n, ns, is) = told_some why in
+    let (n, ns, is) = refusal_code_some why in
     let z : ◌≡◌ {A = List ℕ} [] (n ∷ ns) = sym none ∙ same ∙ some ∙ is in cc
 
-same_refusal : (r r' : List ℕ) (why why' : Refusal) → r ≡ r' → r ≡ told why → r' ≡ told why' → why ≡ why'
-same_refusal r r' why why' same p q = told_apart why why' (sym p ∙ same ∙ q)
+same_refusal : (r r' : List ℕ) (why why' : Refusal) → r ≡ r' → r ≡ refusal_code why → r' ≡ refusal_code why' → why ≡ why'
+same_refusal r r' why why' same p q = refusal_code_apart why why' (sym p ∙ same ∙ q)
 
 -- From the same work a call to a row, and a tick, have one answer each and leave one work.
 called_settled :
@@ -99,7 +99,7 @@ called_settled w v' w' i call (Ok x) (Ok y) one one' = (refl, one.1 ∙ sym one'
 called_settled w v' w' i call (Ok x) (Err why) one one' = not_refused (call_refusal w i call) _ why refl one.0 one'.0
 called_settled w v' w' i call (Err why) (Ok x) one one' = not_refused (call_refusal w i call) _ why refl one'.0 one.0
 called_settled w v' w' i call (Err why) (Err why') one one' =
-    (ap Err (told_apart why why' (sym one.0 ∙ one'.0)), one.1 ∙ sym one'.1)
+    (ap Err (refusal_code_apart why why' (sym one.0 ∙ one'.0)), one.1 ∙ sym one'.1)
 
 tick_settled :
     (due : Bool) (w v' w' : Work) (turn turn' : Option Who)
@@ -107,55 +107,55 @@ tick_settled :
 tick_settled true w v' w' turn turn' one one' = (one.0 ∙ sym one'.0, one.1 ∙ sym one'.1)
 tick_settled false w v' w' turn turn' one one' = (one.0 ∙ sym one'.0, one.1 ∙ sym one'.1)
 
-same_put_refusal : (m n : Meaning) (e : Errand) → Like m n → put_refusal m e ≡ put_refusal n e
+same_put_refusal : (m n : Meaning) (e : Errand) → SameErrands m n → put_refusal m e ≡ put_refusal n e
 same_put_refusal m n e like =
     let refusal : Option Errand → ℕ → ℕ → List ℕ =
     λ found places held.
-    cond (not (errand_within e)) (8 ∷ []) (cond (is_some found) (9 ∷ []) (cond (leb places held) (10 ∷ []) [])) in
+    cond (not (errand_within e)) (8 ∷ []) (cond (is_some found) (9 ∷ []) (cond (nat_le places held) (10 ∷ []) [])) in
     ap (λ (found : Option Errand). refusal found m.places (length m.waiting)) (like.looks e.number)
     ∙ ap (λ (places : ℕ). refusal (look n.waiting e.number) places (length m.waiting)) like.places
-    ∙ ap (λ (held : ℕ). refusal (look n.waiting e.number) n.places held) (like_length m n like)
+    ∙ ap (λ (held : ℕ). refusal (look n.waiting e.number) n.places held) (same_errands_length m n like)
 
-put_alike : (m n m' n' : Meaning) (e : Errand) (r r' : Result (Unit {0}) Refusal) → Like m n → Put m e r m' → Put n e r' n' →
-    (r ≡ r') × Like m' n'
+put_alike : (m n m' n' : Meaning) (e : Errand) (r r' : Result (Unit {0}) Refusal) → SameErrands m n → Put m e r m' → Put n e r' n' →
+    (r ≡ r') × SameErrands m' n'
 put_alike m n m' n' e (Ok x) (Ok y) like one one' =
-    (refl, like_changes m n m' n' e.number (Some e) (Some e) like refl one.1 one'.1)
+    (refl, same_errands_changes m n m' n' e.number (Some e) (Some e) like refl one.1 one'.1)
 put_alike m n m' n' e (Ok x) (Err why) like one one' = not_refused _ _ why (same_put_refusal m n e like) one.0 one'.0
 put_alike m n m' n' e (Err why) (Ok x) like one one' = not_refused _ _ why (sym (same_put_refusal m n e like)) one'.0 one.0
 put_alike m n m' n' e (Err why) (Err why') like one one' = (
   ap Err (same_refusal _ _ why why' (same_put_refusal m n e like) one.0 one'.0),
-  like_moved m n m' n' one.1 one'.1 like,
+  same_errands_moved m n m' n' one.1 one'.1 like,
 )
 
-take_alike : (m n m' n' : Meaning) (k : ℕ) (r r' : Result ℕ Refusal) → Like m n → Take m k r m' → Take n k r' n' →
-    (r ≡ r') × Like m' n'
+take_alike : (m n m' n' : Meaning) (k : ℕ) (r r' : Result ℕ Refusal) → SameErrands m n → Take m k r m' → Take n k r' n' →
+    (r ≡ r') × SameErrands m' n'
 take_alike m n m' n' k (Ok units) (Ok units') like (e, found, is, change) (e', found', is', change') =
     let found-same : Some e ≡ Some e' = sym found ∙ like.looks k ∙ found' in
     let same : e ≡ e' = cc in
-    (ap Ok (is ∙ ap (λ x. x.units) same ∙ sym is'), like_changes m n m' n' k None None like refl change change')
+    (ap Ok (is ∙ ap (λ x. x.units) same ∙ sym is'), same_errands_changes m n m' n' k None None like refl change change')
 take_alike m n m' n' k (Ok units) (Err why) like (e, found, is, change) (none, number, stays) =
     let z : Some e ≡ None = sym found ∙ like.looks k ∙ none in cc
 take_alike m n m' n' k (Err why) (Ok units) like (none, number, stays) (e, found, is, change) =
     let z : None ≡ Some e = sym none ∙ like.looks k ∙ found in cc
 take_alike m n m' n' k (Err why) (Err why') like (none, number, stays) (none', number', stays') =
-    (ap Err (told_apart why why' (number ∙ sym number')), like_moved m n m' n' stays stays' like)
+    (ap Err (refusal_code_apart why why' (number ∙ sym number')), same_errands_moved m n m' n' stays stays' like)
 
 -- What the tick asks of the queue: where an errand has both ticks, it is the same.
 served_alike :
     (turn : Option Who) (m n m' n' : Meaning) (who who' : Who)
-    → Like m n
+    → SameErrands m n
     → ((k k' : ℕ) → who ≡ ForErrand k → who' ≡ ForErrand k' → k ≡ k')
-    → ServedOrLeft turn m who m' → ServedOrLeft turn n who' n' → (who ≡ who') × Like m' n'
+    → ServedOrLeft turn m who m' → ServedOrLeft turn n who' n' → (who ≡ who') × SameErrands m' n'
 served_alike None m n m' n' who who' like agree (k, is, (named, (e, found, change))) (k', is', (named', (e', found', change'))) =
     let same : k ≡ k' = agree k k' is is' in
     let found-same : Some e ≡ Some e' = sym found ∙ like.looks k ∙ ap (look n.waiting) same ∙ found' in
     let errand : e ≡ e' = cc in (
       is ∙ ap ForErrand same ∙ sym is',
-      like_changes m n m' n' k (one_less e) (one_less e') like (ap one_less errand) change
+      same_errands_changes m n m' n' k (one_less e) (one_less e') like (ap one_less errand) change
           (subst (λ (j : ℕ). Changes n j (one_less e') n') (sym same) change'),
     )
 served_alike (Some had) m n m' n' who who' like agree (is, stays) (is', stays') =
-    (is ∙ sym is', like_moved m n m' n' stays stays' like)
+    (is ∙ sym is', same_errands_moved m n m' n' stays stays' like)
 
 same_pair : (slack slack' : ℕ) (who who' : Who) → slack ≡ slack' → who ≡ who' → ◌≡◌ {A = Result (ℕ × Who) Refusal} (Ok (slack, who)) (Ok (slack', who'))
 same_pair slack slack' who who' p q = cc
@@ -169,7 +169,7 @@ tick_alike s t s' t' (Ok (slack, who)) (Ok (slack', who')) alike agree
     let due = errand_due s.work (waits s.queue) in
     let due-same : due ≡ errand_due t.work (waits t.queue) =
     ◌∙◌ {b = errand_due s.work (waits t.queue)}
-    (ap (λ (b : Bool). errand_due s.work b) (like_waits s.queue t.queue alike.queue))
+    (ap (λ (b : Bool). errand_due s.work b) (same_errands_waits s.queue t.queue alike.queue))
     (ap (λ (w : Work). errand_due w (waits t.queue)) alike.work) in
     let used-here : SparedOrRun due s.work turn' t'.work =
     subst (λ (w : Work). SparedOrRun due w turn' t'.work) (sym alike.work)
@@ -186,10 +186,10 @@ tick_alike s t s' t' (Ok answer) (Err why) alike agree (turn, (room, is, used), 
 tick_alike s t s' t' (Err why) (Ok answer) alike agree ((ended, number, stays), queue-stays) (turn, (room, is, used), served) =
     absurd (omega (arith, room, ended, ap (λ (w : Work). w.clock) alike.work))
 tick_alike s t s' t' (Err why) (Err why') alike agree ((ended, number, stays), queue-stays) ((ended', number', stays'), queue-stays') = (
-  ap Err (told_apart why why' (number ∙ sym number')),
+  ap Err (refusal_code_apart why why' (number ∙ sym number')),
   record {
     work = stays ∙ alike.work ∙ sym stays';
-    queue = like_moved s.queue t.queue s'.queue t'.queue queue-stays queue-stays' alike.queue;
+    queue = same_errands_moved s.queue t.queue s'.queue t'.queue queue-stays queue-stays' alike.queue;
   },
 )
 
@@ -201,7 +201,7 @@ row_alike s t s' t' i call r r' alike one stays one' stays' =
     let (same, after) =
     called_settled s.work s'.work t'.work i call r r' one
     (subst (λ (w : Work). RowCalled w i call r' t'.work) (sym alike.work) one') in
-    (same, record { work = after; queue = like_moved s.queue t.queue s'.queue t'.queue stays stays' alike.queue })
+    (same, record { work = after; queue = same_errands_moved s.queue t.queue s'.queue t'.queue stays stays' alike.queue })
 
 step_alike :
     (s t s' t' : State) (call : Call) (a b : Answer) → Alike s t
@@ -213,10 +213,10 @@ step_alike s t s' t' (Release i) a b alike agree (r, is, one, stays) (r', is', o
 step_alike s t s' t' (Done i) a b alike agree (r, is, one, stays) (r', is', one', stays') =
     let (same, after) = row_alike s t s' t' i RowDone r r' alike one stays one' stays' in
     (is ∙ ap plain_answer same ∙ sym is', after)
-step_alike s t s' t' (Request e) a b alike agree (r, is, put, stays) (r', is', put', stays') =
+step_alike s t s' t' (Request e) a b alike agree (r, is, (put, stays)) (r', is', (put', stays')) =
     let (same, like) = put_alike s.queue t.queue s'.queue t'.queue e r r' alike.queue put put' in
     (is ∙ ap plain_answer same ∙ sym is', record { work = stays ∙ alike.work ∙ sym stays'; queue = like })
-step_alike s t s' t' (Withdraw k) a b alike agree (r, is, take, stays) (r', is', take', stays') =
+step_alike s t s' t' (Withdraw k) a b alike agree (r, is, (take, stays)) (r', is', (take', stays')) =
     let (same, like) = take_alike s.queue t.queue s'.queue t'.queue k r r' alike.queue take take' in
     (is ∙ ap units_answer same ∙ sym is', record { work = stays ∙ alike.work ∙ sym stays'; queue = like })
 step_alike s t s' t' Slack a b alike agree (is, stays) (is', stays') =
@@ -248,7 +248,7 @@ same_number o n k p q = let same : Some n ≡ Some k = sym p ∙ q in cc
 settled :
     (choice : Choice) (past : History) (s t : State) (trace trace' : Trace) (end end' : State) → Alike s t
     → Run s trace end → Run t trace' end' → Chosen choice past trace → Chosen choice past trace'
-    → called trace ≡ called trace' → trace ≡ trace'
+    → calls_in trace ≡ calls_in trace' → trace ≡ trace'
 settled choice past s t trace trace' end end' alike stay stay chosen chosen' calls = refl
 settled choice past s t trace trace' end end' alike stay (step one more) chosen chosen' calls = cc
 settled choice past s t trace trace' end end' alike (step one more) stay chosen chosen' calls = cc
@@ -256,7 +256,7 @@ settled choice past s t trace trace' end end' alike
     (step {s' = s'} {call = call} {answer = a} {rest = rest} one more)
     (step {s' = t'} {call = call'} {answer = b} {rest = rest'} one' more') chosen chosen' calls =
     let same-call : call ≡ call' = cc in
-    let same-calls : called rest ≡ called rest' = cc in
+    let same-calls : calls_in rest ≡ calls_in rest' = cc in
     let next : Step t call b t' = subst (λ (c : Call). Step t c b t') (sym same-call) one' in
     let picked : Chosen choice past ((call, b) ∷ rest') =
     subst (λ (c : Call). Chosen choice past ((c, b) ∷ rest')) (sym same-call) chosen' in

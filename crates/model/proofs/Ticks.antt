@@ -5,20 +5,21 @@
 use Rattle.std.proofs.Common.{◌≡◌, ℕ, ◌+◌, ◌<◌, ◌≤◌, true, false, ◌⊎◌, List, [], length, Some, None, Option, refl, ap, ◌∙◌, inl, inr, ⊎_elim, arith}
 use Rattle.std.proofs.lemmas.List.{get_or-set_same, get_or-set_other}
 use Rattle.std.proofs.lemmas.Bool.{cases_lt, both_ways, cond-true, lt-ltb}
+use Rattle.model.specs.Demand.{need, row_at, no_row}
 use Rattle.model.specs.Kept.{Keeps}
 use Rattle.model.specs.Machine.{Work, after_call, call_refusal, duty_tick, first_ready, is_ready, later, ready_at, row_after, row_refusal, slack_of}
-use Rattle.model.specs.Reckoning.{need, window, window_end, spare, row_at, no_row}
+use Rattle.model.specs.Slack.{window, window_end, spare}
 use Rattle.model.specs.Table.{admitted, duty_at}
 use Rattle.model.specs.declared.duties.Duty.{Duty}
 use Rattle.model.specs.declared.rows.Row.{Row}
 use Rattle.model.specs.declared.rows.Row.TheVariants.{Idle, Ready}
 use Rattle.model.specs.declared.rows.RowCall.TheVariants.{Run}
-use Rattle.model.proofs.Accepting.{NeedsNoMore, call_needs, call_numbers, set_need, set_end, spares_open}
-use Rattle.model.proofs.Covering.{met_spares, idle_spares}
 use Rattle.model.proofs.Demand.{need_later, need_run}
 use Rattle.model.proofs.Extremes.{greatest_taken, slack_least}
-use Rattle.model.proofs.Keeping.{RowNumbers, Numbers, Spares, Keeping, end_at, kept_gives, kept_from}
+use Rattle.model.proofs.Invariant.{RowNumbers, Numbers, Spares, Keeping, end_at, kept_gives, kept_from}
+use Rattle.model.proofs.RowCalls.{NeedsNoMore, call_needs, call_numbers, set_need, set_end, spares_open}
 use Rattle.model.proofs.Searches.{IsLeast, least_found, none_passes}
+use Rattle.model.proofs.Spare.{met_spares, idle_spares}
 use Rattle.model.proofs.Sums.{need_at, demand_le, demand_less}
 
 -- Whose turn it is: no row has a job, or row k has one and no row above it.
@@ -53,8 +54,8 @@ window_later clock duty (Ready c d e) = omega arith
 
 module _ (w : Work) (numbers : Numbers w) (i r : ℕ) (inside : i < length w.table) where
   -- Once the releases for the clock are over, a row has at least what it had to spare before.
-  pub early_late : Spares w.clock w i r → Spares (w.clock + 1) w i r
-  early_late (x, ahead, (before_end, met)) =
+  pub releases_over : Spares w.clock w i r → Spares (w.clock + 1) w i r
+  releases_over (x, ahead, (before_end, met)) =
       let no_more =
       demand_le w.table i inside w.clock (w.clock + 1) x w.rows w.rows numbers.same_length numbers.same_length
       (λ k h. need_later w.clock (w.clock + 1) (duty_at w.table k) (row_at w.rows k) x (omega arith)) in
@@ -121,7 +122,7 @@ module _
       (i r : ℕ) → i < length w.table → k ≤ i → Spares w.clock w i r → Spares (w.clock + 1) (later (after_call w k Run)) i r
   run_spares i r inside below spares =
       later_spares (after_call w k Run) run_numbers i r inside ok
-      (early_late (after_call w k Run) run_numbers i (r + 1) inside (run_gains i r inside below spares))
+      (releases_over (after_call w k Run) run_numbers i (r + 1) inside (run_gains i r inside below spares))
 
   run_keeping : Keeping 0 w → Keeping 0 (later (after_call w k Run))
   run_keeping keeping =

@@ -15,8 +15,8 @@ use Rattle.model.specs.declared.calls.Who.{Who}
 use Rattle.model.specs.declared.calls.Who.TheVariants.{Errand as ForErrand}
 use Rattle.model.specs.declared.errands.Errand.{Errand}
 use Rattle.model.proofs.Accounts.{units_looked_up, accounts_kept, run_sound}
-use Rattle.model.proofs.Weights.{list_bound, total_weight, under_one_number, weight_of, weight_of_all_numbers}
 use Rattle.model.proofs.Sums.{sum_to, sum_none, sum_same, sum_both}
+use Rattle.model.proofs.Weights.{list_bound, total_weight, under_one_number, weight_of, weight_of_all_numbers}
 
 -- Above the errand number that a call, an answer's tick, a run or a list has. A sum of such bounds is above each.
 abbrev call_bound : Call → ℕ
@@ -76,11 +76,11 @@ module _ (bound : ℕ) where
   withdrawn_of_all_numbers s (Release i) answer s' (Err why, answered, called, queue-stays) below = rw answered sum_zero
   withdrawn_of_all_numbers s (Done i) answer s' (Ok x, answered, called, queue-stays) below = rw answered sum_zero
   withdrawn_of_all_numbers s (Done i) answer s' (Err why, answered, called, queue-stays) below = rw answered sum_zero
-  withdrawn_of_all_numbers s (Request e) answer s' (Ok x, answered, put, work-stays) below = rw answered sum_zero
-  withdrawn_of_all_numbers s (Request e) answer s' (Err why, answered, put, work-stays) below = rw answered sum_zero
+  withdrawn_of_all_numbers s (Request e) answer s' (Ok x, answered, requested) below = rw answered sum_zero
+  withdrawn_of_all_numbers s (Request e) answer s' (Err why, answered, requested) below = rw answered sum_zero
   withdrawn_of_all_numbers s (Withdraw k) answer s' one below = under_one_number bound k (given_back answer) below
   withdrawn_of_all_numbers s Slack answer s' (answered, same) below = rw answered sum_zero
-  withdrawn_of_all_numbers s Tick answer s' (Ok told, answered, ticked) below = rw answered sum_zero
+  withdrawn_of_all_numbers s Tick answer s' (Ok pair, answered, ticked) below = rw answered sum_zero
   withdrawn_of_all_numbers s Tick answer s' (Err why, answered, ticked) below = rw answered sum_zero
 
   -- Where g says of each step what f says of it for all numbers, so do their totals over a run.

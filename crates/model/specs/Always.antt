@@ -6,8 +6,8 @@ use Rattle.model.specs.Futures.{overdue, Safe}
 use Rattle.model.specs.Kept.{Keeps, SlackNotBelow0}
 use Rattle.model.specs.Machine.{Work, State, Step, fresh_work, later, slack_of}
 use Rattle.model.specs.Queues.{Sound}
-use Rattle.model.specs.Reckoning.{window}
 use Rattle.model.specs.Runs.{Run, Trace, ticks}
+use Rattle.model.specs.Slack.{window}
 use Rattle.model.specs.Table.{admitted}
 use Rattle.model.specs.declared.calls.Answer.{Answer}
 use Rattle.model.specs.declared.calls.Call.{Call}

@@ -9,14 +9,14 @@ use Rattle.model.specs.declared.rows.RowCall.TheVariants.{Release, Done}
 -- What a future is made of: releases and dones of rows, and ticks that go as if no errand waited.
 pub data Move : Type 0 where
   release : ℕ → Move
-  finish : ℕ → Move
+  done : ℕ → Move
   tick : Move
 
 -- No release and no done of the list is refused.
 abbrev pub Lawful : Work → List Move → Type 0
 Lawful w [] = Unit {0}
 Lawful w (release i ∷ moves) = (call_refusal w i Release ≡ []) × Lawful (after_call w i Release) moves
-Lawful w (finish i ∷ moves) = (call_refusal w i Done ≡ []) × Lawful (after_call w i Done) moves
+Lawful w (done i ∷ moves) = (call_refusal w i Done ≡ []) × Lawful (after_call w i Done) moves
 Lawful w (tick ∷ moves) = Lawful (later (duty_tick w)) moves
 
 -- The clock equals the deadline of a ready job.
@@ -29,7 +29,7 @@ overdue clock (Ready c d e ∷ rows) = clock == d || overdue clock rows
 abbrev pub misses : Work → List Move → Bool
 misses w [] = overdue w.clock w.rows
 misses w (release i ∷ moves) = overdue w.clock w.rows || misses (after_call w i Release) moves
-misses w (finish i ∷ moves) = overdue w.clock w.rows || misses (after_call w i Done) moves
+misses w (done i ∷ moves) = overdue w.clock w.rows || misses (after_call w i Done) moves
 misses w (tick ∷ moves) = overdue w.clock w.rows || misses (later (duty_tick w)) moves
 
 -- No lawful future misses a deadline.

@@ -1,8 +1,9 @@
 -- What a running machine always keeps: each row's slack by the early reckoning is not below 0.
 use Rattle.std.specs.Prelude.{◌≡◌, ℕ, zero, suc, ◌+◌, ◌≤◌, Bool, true, false, ◌&&◌, List, [], ◌∷◌, length, is_some, ◌==◌, nat_le}
+use Rattle.model.specs.Demand.{demand_at}
 use Rattle.model.specs.Machine.{Work}
-use Rattle.model.specs.Reckoning.{demand_at, window}
 use Rattle.model.specs.Searches.{least}
+use Rattle.model.specs.Slack.{window}
 use Rattle.model.specs.Table.{admitted}
 use Rattle.model.specs.declared.duties.Duty.{Duty}
 use Rattle.model.specs.declared.rows.Row.{Row}

@@ -2,10 +2,11 @@
 -- and what each call answers and does. Everything is determined but the queue's choice among those waiting, so a call
 -- is a relation between the state before, its answer and the state after.
 use Rattle.std.specs.Prelude.{◌≡◌, ℕ, pred, ◌+◌, ◌<◌, ◌≤◌, Bool, true, false, cond, ◌&&◌, List, [], ◌∷◌, length, replicate, Some, None, Ok, Err, Option, Result, nat_le, nat_lt, slice_set}
+use Rattle.model.specs.Demand.{row_at}
 use Rattle.model.specs.Queues.{Meaning, Put, Spend, Take}
-use Rattle.model.specs.Reckoning.{row_at, table_slack}
-use Rattle.model.specs.Refusals.{told}
+use Rattle.model.specs.Refusals.{refusal_code}
 use Rattle.model.specs.Searches.{least}
+use Rattle.model.specs.Slack.{table_slack}
 use Rattle.model.specs.Table.{duty_at}
 use Rattle.model.specs.declared.calls.Answer.{Answer}
 use Rattle.model.specs.declared.calls.Answer.TheVariants.{Accepted, Withdrawn, Slack as SlackIs, Ticked, Refused}
@@ -14,6 +15,7 @@ use Rattle.model.specs.declared.calls.Call.TheVariants.{Release, Done, Request, 
 use Rattle.model.specs.declared.calls.Who.{Who}
 use Rattle.model.specs.declared.calls.Who.TheVariants.{Nobody, Duty as ForDuty, Errand as ForErrand}
 use Rattle.model.specs.declared.duties.Duty.{Duty}
+use Rattle.model.specs.declared.errands.Errand.{Errand}
 use Rattle.model.specs.declared.refusals.Refusal.{Refusal}
 use Rattle.model.specs.declared.rows.Row.{Row}
 use Rattle.model.specs.declared.rows.Row.TheVariants.{Idle, Ready}
@@ -107,7 +109,14 @@ slack_of w = table_slack (w.clock + 1) w.clock w.table w.rows
 -- A call to row i: refused with nothing changed, or done to that row alone.
 abbrev pub RowCalled : {X : Type 0} → Work → ℕ → RowCall → Result X Refusal → Work → Type 0
 RowCalled w i call (Ok x) w' = (call_refusal w i call ≡ []) × (w' ≡ after_call w i call)
-RowCalled w i call (Err why) w' = (call_refusal w i call ≡ told why) × (w' ≡ w)
+RowCalled w i call (Err why) w' = (call_refusal w i call ≡ refusal_code why) × (w' ≡ w)
+
+-- Request and withdraw pass to the queue, and leave the work.
+abbrev pub Requested : {X : Type 0} → State → Errand → Result X Refusal → State → Type 0
+Requested s e r s' = Put s.queue e r s'.queue × (s'.work ≡ s.work)
+
+abbrev pub Withdraws : State → ℕ → Result ℕ Refusal → State → Type 0
+Withdraws s n r s' = Take s.queue n r s'.queue × (s'.work ≡ s.work)
 
 -- An errand is to have the tick: one waits, and the table's slack is at least 1.
 abbrev pub errand_due : Work → Bool → Bool
@@ -126,7 +135,7 @@ WorkTicks w errand_waits (Ok answer) w' =
     (w.clock < last_clock)
     × (answer.0 ≡ slack_of w)
     × SparedOrRun (errand_due w errand_waits) w answer.1 w'
-WorkTicks w errand_waits (Err why) w' = (last_clock ≤ w.clock) × (told why ≡ 7 ∷ []) × (w' ≡ w)
+WorkTicks w errand_waits (Err why) w' = (last_clock ≤ w.clock) × (refusal_code why ≡ 7 ∷ []) × (w' ≡ w)
 
 -- What the tick asks of the queue, and who has it then: where it is to spare, the errand that the queue names, which
 -- loses one unit.
@@ -155,8 +164,8 @@ abbrev pub tick_answer : Result (ℕ × Who) Refusal → Answer
 tick_answer (Ok answer) = Ticked answer.0 answer.1
 tick_answer (Err why) = Refused why
 
--- One step: a call, its answer, and the state after. Releases and dones leave the queue, requests and withdraws pass
--- to it and leave the work, and slack leaves both.
+-- One step: a call, its answer, and the state after. Release and done pass to the work and leave the queue; the call
+-- slack leaves both.
 abbrev pub Step : State → Call → Answer → State → Type 0
 Step s (Release i) a s' =
     ((r : Result (Unit {0}) Refusal)
@@ -168,9 +177,7 @@ Step s (Done i) a s' =
     × (a ≡ plain_answer r)
     × RowCalled s.work i RowDone r s'.work
     × (s'.queue ≡ s.queue))
-Step s (Request e) a s' =
-    ((r : Result (Unit {0}) Refusal) × (a ≡ plain_answer r) × Put s.queue e r s'.queue × (s'.work ≡ s.work))
-Step s (Withdraw n) a s' =
-    ((r : Result ℕ Refusal) × (a ≡ units_answer r) × Take s.queue n r s'.queue × (s'.work ≡ s.work))
+Step s (Request e) a s' = ((r : Result (Unit {0}) Refusal) × (a ≡ plain_answer r) × Requested s e r s')
+Step s (Withdraw n) a s' = ((r : Result ℕ Refusal) × (a ≡ units_answer r) × Withdraws s n r s')
 Step s Slack a s' = (a ≡ SlackIs (slack_of s.work)) × (s' ≡ s)
 Step s Tick a s' = ((r : Result (ℕ × Who) Refusal) × (a ≡ tick_answer r) × Ticks s r s')

@@ -13,8 +13,8 @@ abbrev pub Trace : Type 0
 Trace = List (Call × Answer)
 
 -- The calls alone.
-abbrev pub called : Trace → List Call
-called = map (λ (x : Call × Answer). x.0)
+abbrev pub calls_in : Trace → List Call
+calls_in = map (λ (x : Call × Answer). x.0)
 
 -- The machine goes from one state to another by these calls with these answers.
 pub data Run : State → Trace → State → Type 0 where

@@ -1,5 +1,5 @@
 ghost use Rattle.std.specs.Prelude.{◌≡◌, slice_index};
-ghost use Rattle.model.specs.Refusals.{told};
+ghost use Rattle.model.specs.Refusals.{refusal_code};
 
 // Why a call was refused.
 #[derive(Clone, Copy, PartialEq, Eq, Debug)]
@@ -31,7 +31,7 @@ pub enum Refusal {
 impl Refusal {
     // The number under which the refusal is reported. Those who read transcripts know refusals by it, so it is no `Display` in words.
     pub fn number(&self) -> u32
-        ensures { result ≡ slice_index (told self.now) 0 }
+        ensures { result ≡ slice_index (refusal_code self.now) 0 }
     {
         match self {
             Refusal::NoSuchRow => 1,

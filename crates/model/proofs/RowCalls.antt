@@ -1,11 +1,12 @@
 -- An accepted call to a row takes nothing from what any row has to spare: no row needs more after it, and no window
 -- ends sooner. So it keeps what a running machine keeps.
-use Rattle.std.proofs.Common.{◌≡◌, ℕ, pred, ◌<◌, ◌≤◌, Bool, true, false, cond, ltb, leb, List, [], ◌∷◌, length, set, refl, ⊎_elim, arith, length-set}
+use Rattle.std.proofs.Common.{◌≡◌, ℕ, pred, ◌<◌, ◌≤◌, Bool, true, false, cond, nat_lt, nat_le, List, [], ◌∷◌, length, slice_set, refl, ⊎_elim, arith, length-set}
 use Rattle.std.proofs.lemmas.List.{get_or-set_same, get_or-set_other}
 use Rattle.std.proofs.lemmas.Bool.{cases_Bool, cases_eq, cond_both, ltb-true, ltb-false, leb-false}
+use Rattle.model.specs.Demand.{need, row_at, no_row}
 use Rattle.model.specs.Kept.{Keeps}
 use Rattle.model.specs.Machine.{Work, after_call, with_rows, row_refusal, row_after, call_refusal}
-use Rattle.model.specs.Reckoning.{need, window_end, row_at, no_row}
+use Rattle.model.specs.Slack.{window_end}
 use Rattle.model.specs.Table.{admitted, duty_at}
 use Rattle.model.specs.declared.duties.Duty.{Duty}
 use Rattle.model.specs.declared.rows.Row.{Row}
@@ -14,7 +15,7 @@ use Rattle.model.specs.declared.rows.RowCall.{RowCall}
 use Rattle.model.specs.declared.rows.RowCall.TheVariants.{Release, Done, Run}
 use Rattle.model.proofs.Admitted.{Limits, admitted_limits}
 use Rattle.model.proofs.Demand.{need_released, need_done, need_run}
-use Rattle.model.proofs.Keeping.{RowNumbers, Numbers, end_at, Spares, kept_gives, kept_from}
+use Rattle.model.proofs.Invariant.{RowNumbers, Numbers, end_at, Spares, kept_gives, kept_from}
 use Rattle.model.proofs.Sums.{need_at, demand_le}
 
 -- A cond that is [] where its first way is not: the test failed.
@@ -23,8 +24,8 @@ second_way true n h = absurd (let z : ◌≡◌ {A = ℕ} 0 1 = cc in omega arit
 second_way false n h = refl
 
 -- A release that is not refused does not come too soon.
-pub release_allowed : (clock e : ℕ) → cond {A = List ℕ} (ltb clock e) (5 ∷ []) [] ≡ [] → e ≤ clock
-release_allowed clock e h = ltb-false clock e (second_way (ltb clock e) 5 h)
+pub release_allowed : (clock e : ℕ) → cond {A = List ℕ} (nat_lt clock e) (5 ∷ []) [] ≡ [] → e ≤ clock
+release_allowed clock e h = ltb-false clock e (second_way (nat_lt clock e) 5 h)
 
 -- A call to a row that is accepted: there is such a row, and its state does not refuse.
 pub call_accepted :
@@ -34,7 +35,7 @@ call_accepted w i call h =
     ⊎_elim
     (λ yes-row. (ltb-true i (length w.rows) yes-row, rw (yes-row, cond) at h))
     (λ no_such. absurd (let z : ◌≡◌ {A = ℕ} 0 1 = cc in omega arith))
-    (cases_Bool (ltb i (length w.rows)))
+    (cases_Bool (nat_lt i (length w.rows)))
 
 -- A row before and after: its numbers stay kept, it needs no more, and its window ends no sooner.
 pub record NeedsNoMore (clock : ℕ) (duty : Duty) (row after : Row) : Type 0 where
@@ -71,12 +72,12 @@ row_call_needs clock duty (Idle e) Run limits numbers ahead accepted =
 row_call_needs clock duty (Ready c d e) Run limits numbers ahead accepted =
     record {
       numbers =
-          cond_both (leb c 1) (Idle e) (Ready (pred c) d e) (RowNumbers clock duty)
+          cond_both (nat_le c 1) (Idle e) (Ready (pred c) d e) (RowNumbers clock duty)
           (λ last. numbers.3)
           (λ more. (omega (arith, leb-false c 1 more), omega (arith, numbers.1), numbers.2, numbers.3));
       needs = λ x later. omega (arith, need_run clock clock duty c d e x numbers.0);
       ends =
-          cond_both (leb c 1) (Idle e) (Ready (pred c) d e) (λ row. window_end clock duty (Ready c d e) ≤ window_end clock duty row)
+          cond_both (nat_le c 1) (Idle e) (Ready (pred c) d e) (λ row. window_end clock duty (Ready c d e) ≤ window_end clock duty row)
           (λ last. omega (arith, limits, numbers))
           (λ more. omega arith);
     }
@@ -87,7 +88,7 @@ pub at_set :
     → k < length rows
     → P k row
     → ((i : ℕ) → (i ≡ k → ⊥) → P i (row_at rows i))
-    → (i : ℕ) → P i (row_at (set rows k row) i)
+    → (i : ℕ) → P i (row_at (slice_set rows k row) i)
 at_set P rows k row short new others i =
     ⊎_elim
     (λ same. rw same (rw (get_or-set_same rows k row no_row short) new))
@@ -103,7 +104,7 @@ module _
     (w : Work) (numbers : Numbers w) (k : ℕ) (row : Row) (there : k < length w.rows)
     (no_more : NeedsNoMore w.clock (duty_at w.table k) (row_at w.rows k) row) where
   abbrev after : Work
-  after = with_rows w (set w.rows k row)
+  after = with_rows w (slice_set w.rows k row)
 
   -- Each row's numbers stay kept,
   pub set_numbers : Numbers after

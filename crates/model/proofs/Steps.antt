@@ -1,6 +1,6 @@
 -- Steps and runs: what a step does to the work, and so that every one keeps the invariant and the table, and that the
 -- clock counts the ticks that were accepted.
-use Rattle.std.proofs.Common.{◌≡◌, ℕ, ◌+◌, ◌≤◌, Bool, true, false, leb, [], ◌∷◌, ◌++◌, Ok, Err, Option, Result, refl, ap, ◌∙◌, arith}
+use Rattle.std.proofs.Common.{◌≡◌, ℕ, ◌+◌, ◌≤◌, Bool, true, false, nat_le, [], ◌∷◌, ◌++◌, Ok, Err, Option, Result, refl, ap, ◌∙◌, arith}
 use Rattle.std.proofs.lemmas.Bool.{and_parts, leb-true}
 use Rattle.model.specs.Kept.{Keeps}
 use Rattle.model.specs.Machine.{Work, State, Step, RowCalled, SparedOrRun, after_call, call_refusal, duty_tick, errand_due, later, slack_of, waits}
@@ -12,7 +12,7 @@ use Rattle.model.specs.declared.calls.Who.{Who}
 use Rattle.model.specs.declared.refusals.Refusal.{Refusal}
 use Rattle.model.specs.declared.rows.RowCall.{RowCall}
 use Rattle.model.specs.declared.rows.RowCall.TheVariants.{Release as RowRelease, Done as RowDone}
-use Rattle.model.proofs.Accepting.{call_keeps}
+use Rattle.model.proofs.RowCalls.{call_keeps}
 use Rattle.model.proofs.Ticks.{duty_tick_keeps, spare_tick_keeps}
 
 -- What a step does to the work: it leaves it, an accepted call to a row changes that row, or the clock rises, by a
@@ -33,7 +33,7 @@ tick_step :
     (due : Bool) (w : Work) (errand_waits : Bool) (turn : Option Who) (w' : Work) (ticked : ℕ)
     → errand_due w errand_waits ≡ due → SparedOrRun due w turn w' → ticked ≡ 1 → WorkStep w ticked w'
 tick_step true w errand_waits turn w' ticked due (none, then) one =
-    spared (leb-true 1 (slack_of w) (and_parts errand_waits (leb 1 (slack_of w)) due).1) then one
+    spared (leb-true 1 (slack_of w) (and_parts errand_waits (nat_le 1 (slack_of w)) due).1) then one
 tick_step false w errand_waits turn w' ticked due (had, then) one = worked then one
 
 work_step :
@@ -43,12 +43,12 @@ work_step s (Release i) answer s' (Ok x, answered, one, queue-stays) = row_step 
 work_step s (Release i) answer s' (Err why, answered, one, queue-stays) = row_step {X = Unit {0}} s.work i RowRelease (Err why) s'.work _ one (rw answered refl)
 work_step s (Done i) answer s' (Ok x, answered, one, queue-stays) = row_step s.work i RowDone (Ok x) s'.work _ one (rw answered refl)
 work_step s (Done i) answer s' (Err why, answered, one, queue-stays) = row_step {X = Unit {0}} s.work i RowDone (Err why) s'.work _ one (rw answered refl)
-work_step s (Request e) answer s' (Ok x, answered, put, same) = left same (rw answered refl)
-work_step s (Request e) answer s' (Err why, answered, put, same) = left same (rw answered refl)
-work_step s (Withdraw n) answer s' (Ok units, answered, taken, same) = left same (rw answered refl)
-work_step s (Withdraw n) answer s' (Err why, answered, taken, same) = left same (rw answered refl)
+work_step s (Request e) answer s' (Ok x, answered, (put, same)) = left same (rw answered refl)
+work_step s (Request e) answer s' (Err why, answered, (put, same)) = left same (rw answered refl)
+work_step s (Withdraw n) answer s' (Ok units, answered, (taken, same)) = left same (rw answered refl)
+work_step s (Withdraw n) answer s' (Err why, answered, (taken, same)) = left same (rw answered refl)
 work_step s Slack answer s' (answered, same) = left (ap (λ (t : State). t.work) same) (rw answered refl)
-work_step s Tick answer s' (Ok told, answered, (turn, (room, slack-is, used), served)) =
+work_step s Tick answer s' (Ok pair, answered, (turn, (room, slack-is, used), served)) =
     tick_step (errand_due s.work (waits s.queue)) s.work (waits s.queue) turn s'.work _ refl used (rw answered refl)
 work_step s Tick answer s' (Err why, answered, ((ended, refused, same), queue-stays)) = left same (rw answered refl)
 

@@ -3,16 +3,17 @@
 use Rattle.std.proofs.Common.{◌≡◌, ℕ, ◌+◌, ◌-◌, ◌*◌, ◌<◌, ◌≤◌, true, false, List, length, refl, ap, ⊎_elim, arith}
 use lib.ListN.{length-replicate, get_or-replicate}
 use Rattle.std.proofs.lemmas.Bool.{cases_lt, both_ways}
+use Rattle.model.specs.Demand.{need, row_at, no_row}
 use Rattle.model.specs.Kept.{Keeps}
 use Rattle.model.specs.Machine.{Work, fresh_work, is_ready, ready_at}
-use Rattle.model.specs.Reckoning.{need, window_end, row_at, no_row}
+use Rattle.model.specs.Slack.{window_end}
 use Rattle.model.specs.Table.{ceil, admitted, duty_at}
 use Rattle.model.specs.declared.duties.Duty.{Duty}
 use Rattle.model.specs.declared.rows.Row.{Row}
 use Rattle.model.specs.declared.rows.Row.TheVariants.{Idle, Ready}
 use Rattle.model.proofs.Admitted.{admitted_response}
 use Rattle.model.proofs.Demand.{need_idle_none, need_idle_busy}
-use Rattle.model.proofs.Keeping.{RowNumbers, Numbers, Met, Spares, kept_from}
+use Rattle.model.proofs.Invariant.{RowNumbers, Numbers, Met, Spares, kept_from}
 use Rattle.model.proofs.Sums.{need_at, demand_has, demand_none, demand_busy}
 
 -- A row that needs nothing has no job: in w ticks it can ask no more than a row that begins with a job,

@@ -1,28 +1,29 @@
 -- A table without slack cannot spare a tick: after it there is a lawful future that misses. It releases every row as
 -- soon as it may be and then ticks, again and again. Through it the demand of the row that has no slack stays above
 -- what the ticks up to the end of its window can give, until the clock is there and the row still has its job.
-use Rattle.std.proofs.Common.{◌≡◌, ℕ, zero, suc, ◌+◌, ◌-◌, ◌<◌, ◌≤◌, max, true, false, cond, ltb, leb, List, [], ◌∷◌, length, set, refl, ap, ◌∙◌, ⊎_elim, arith}
+use Rattle.std.proofs.Common.{◌≡◌, ℕ, zero, suc, ◌+◌, ◌-◌, ◌<◌, ◌≤◌, max, true, false, cond, nat_lt, nat_le, List, [], ◌∷◌, length, slice_set, refl, ap, ◌∙◌, ⊎_elim, arith}
 use Rattle.std.proofs.lemmas.List.{get_or-set_same, get_or-set_other}
 use Rattle.std.proofs.lemmas.Bool.{cases_Bool, cases_lt, cases_eq, both_ways, or_right, lt-ltb, le-ltb, cond-true, cond-false}
+use Rattle.model.specs.Demand.{need, demand_at, row_at, no_row}
 use Rattle.model.specs.Futures.{Move, release, tick, overdue, Lawful, misses, Safe}
 use Rattle.model.specs.Kept.{Keeps}
 use Rattle.model.specs.Machine.{Work, after_call, call_refusal, duty_tick, is_ready, later, ready_at, released, row_after, row_refusal, slack_of, with_rows}
-use Rattle.model.specs.Reckoning.{need, demand_at, window, window_end, spare, row_slack, row_at, no_row}
+use Rattle.model.specs.Slack.{window, window_end, spare, row_slack}
 use Rattle.model.specs.Table.{admitted, duty_at}
 use Rattle.model.specs.declared.duties.Duty.{Duty}
 use Rattle.model.specs.declared.rows.Row.{Row}
 use Rattle.model.specs.declared.rows.Row.TheVariants.{Idle, Ready}
 use Rattle.model.specs.declared.rows.RowCall.TheVariants.{Release, Run}
-use Rattle.model.proofs.Accepting.{at_set, call_numbers, set_end, spares_open}
 use Rattle.model.proofs.Admitted.{Limits, admitted_limits}
-use Rattle.model.proofs.Covering.{idle_needs_none}
 use Rattle.model.proofs.Demand.{need_idle_none, need_released, need_run_at_most}
 use Rattle.model.proofs.Extremes.{greatest_above, slackless_row}
-use Rattle.model.proofs.Keeping.{RowNumbers, Numbers, end_at, kept_gives}
+use Rattle.model.proofs.Invariant.{RowNumbers, Numbers, end_at, kept_gives}
+use Rattle.model.proofs.Kept.{row_overdue}
+use Rattle.model.proofs.RowCalls.{at_set, call_numbers, set_end, spares_open}
 use Rattle.model.proofs.Searches.{IsLeast}
+use Rattle.model.proofs.Spare.{idle_needs_none}
 use Rattle.model.proofs.Sums.{need_at, demand_none, demand_le, demand_one_less}
 use Rattle.model.proofs.Ticks.{turn_cases, numbers_later, window_later, run_needs, run_numbers}
-use Rattle.model.proofs.Timely.{row_overdue}
 
 -- A lawful future that misses,
 abbrev FutureMisses : Work → Type 0
@@ -93,9 +94,9 @@ work_window :
 work_window clock duty (Idle e) ready = absurd (both_ways false refl ready)
 work_window clock duty (Ready c d e) ready =
     ⊎_elim
-    (λ (last : leb c 1 ≡ true). absurd (both_ways false refl (rw (last, cond) at ready)))
-    (λ (more : leb c 1 ≡ false). rw (more, cond))
-    (cases_Bool (leb c 1))
+    (λ (last : nat_le c 1 ≡ true). absurd (both_ways false refl (rw (last, cond) at ready)))
+    (λ (more : nat_le c 1 ≡ false). rw (more, cond))
+    (cases_Bool (nat_le c 1))
 
 module _ (i end : ℕ) where
   -- Row i is overloaded: its window ends at the clock `end`, and up to each clock till then its demand is more than
@@ -124,12 +125,12 @@ module _ (i end : ℕ) where
     release_accepted : call_refusal w k Release ≡ []
     release_accepted =
         let willing : row_refusal w.clock (row_at w.rows k) Release ≡ [] =
-        rw at (cond-false (ltb w.clock e) (5 ∷ []) [] (le-ltb w.clock e allowed)) in
-        cond-true (ltb k (length w.rows)) (row_refusal w.clock (row_at w.rows k) Release) (1 ∷ []) (lt-ltb k (length w.rows) released_there)
+        rw at (cond-false (nat_lt w.clock e) (5 ∷ []) [] (le-ltb w.clock e allowed)) in
+        cond-true (nat_lt k (length w.rows)) (row_refusal w.clock (row_at w.rows k) Release) (1 ∷ []) (lt-ltb k (length w.rows) released_there)
         ∙ willing
 
     release_more :
-        (x : ℕ) → w.clock ≤ x → (j : ℕ) → need_at w.clock w.table w.rows x j ≤ need_at w.clock w.table (set w.rows k released_row) x j
+        (x : ℕ) → w.clock ≤ x → (j : ℕ) → need_at w.clock w.table w.rows x j ≤ need_at w.clock w.table (slice_set w.rows k released_row) x j
     release_more x later =
         at_set (λ j r. need_at w.clock w.table w.rows x j ≤ need w.clock (duty_at w.table j) r x) w.rows k released_row released_there
         (rw at (release_needs w.clock (duty_at w.table k) e x allowed later (omega (arith, admitted_limits w.table over.table_admitted k within))))
@@ -174,7 +175,7 @@ module _ (i end : ℕ) where
           ⊎_elim
           (λ ahead. (w.rows, over, rw at ahead, λ j other. refl, λ future. future))
           (λ allowed. (
-            set w.rows k row,
+            slice_set w.rows k row,
             release_overloaded w k e over within at allowed,
             rw (get_or-set_same w.rows k row no_row (omega (arith, over.numbers.same_length))) tt,
             λ j other. get_or-set_other w.rows k j row no_row other,

@@ -3,14 +3,15 @@
 use Rattle.std.proofs.Common.{◌≡◌, ℕ, zero, suc, ◌+◌, ◌-◌, ◌<◌, ◌≤◌, true, List, [], ◌∷◌, length, refl, ⊎_elim, arith}
 use Rattle.std.proofs.lemmas.Bool.{and_parts, and_from, leb-true, le-leb, cases_order}
 use Rattle.std.proofs.lemmas.Bool.Decides.{nat_tests}
+use Rattle.model.specs.Demand.{demand_at, row_at}
 use Rattle.model.specs.Kept.{row_kept, rows_kept, covers, has_spare, all_spare, kept_with}
 use Rattle.model.specs.Machine.{Work}
-use Rattle.model.specs.Reckoning.{demand_at, window, window_end, row_at}
+use Rattle.model.specs.Slack.{window, window_end}
 use Rattle.model.specs.Table.{duty_at}
 use Rattle.model.specs.declared.duties.Duty.{Duty}
 use Rattle.model.specs.declared.rows.Row.{Row}
 use Rattle.model.specs.declared.rows.Row.TheVariants.{Idle, Ready}
-use Rattle.model.proofs.Found.{search_finds, search_succeeds}
+use Rattle.model.proofs.Searches.{search_finds, search_succeeds}
 
 -- A row's own numbers.
 abbrev pub RowNumbers : ℕ → Duty → Row → Type 0
