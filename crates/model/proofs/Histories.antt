@@ -1,4 +1,4 @@
--- Ticks that go by a choice, call by call.
+-- Histories, call by call: an errand that has a tick is the one that the queue named, so that ticks go by its choice.
 use Rattle.std.proofs.Common.{◌≡◌, ℕ, Bool, true, false, [], ◌∷◌, ◌++◌, Some, None, Ok, Err, Option, sym, refl, ap, ◌∙◌, subst, append_assoc, append-nil}
 use Rattle.std.proofs.lemmas.Bool.{both_ways}
 use Rattle.model.specs.Histories.{Chosen, GoesOn, History, Choice, by_call, history}

@@ -1,4 +1,4 @@
--- Every refusal tells something.
+-- Every refusal has a code, and each a code of its own.
 use Rattle.std.proofs.Common.{◌≡◌, ℕ, cond, ◌==◌, List, [], ◌∷◌, slice_index, sym, refl, ap, ◌∙◌}
 use Rattle.model.specs.Refusals.{refusal_code}
 use Rattle.model.specs.declared.refusals.Refusal.{Refusal}
@@ -17,7 +17,7 @@ refusal_code_some AlreadyWaiting = (9, [], refl)
 refusal_code_some NoPlace = (10, [], refl)
 refusal_code_some NotWaiting = (11, [], refl)
 
--- Refusals that tell the same are the same.
+-- Refusals with the same code are the same.
 abbrev refusal_of_code : ℕ → ℕ → Refusal
 refusal_of_code n row =
     cond (n == 1) NoSuchRow

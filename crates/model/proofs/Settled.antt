@@ -1,5 +1,5 @@
--- Two runs of the same calls, in step: as long as the same errands had the ticks, the answers are the same, and the states differ in
--- no more than the order in which the errands that wait are listed and the one that is named.
+-- Two runs of the same calls from the same state are compared call by call. As long as the same errands had the ticks, the answers
+-- are the same, and the states differ at most in the order in which the errands that wait are listed, and in which is named.
 use Rattle.std.proofs.Common.{◌≡◌, ℕ, ◌+◌, Bool, true, false, cond, not, nat_le, List, [], ◌∷◌, ◌++◌, length, is_some, Some, None, Ok, Err, Option, Result, sym, refl, ap, ◌∙◌, subst, ⊎_elim, append_assoc, arith}
 use Rattle.std.proofs.lemmas.Bool.{cases_eq}
 use Rattle.model.specs.Histories.{Choice, Chosen, History, by_call, history}

@@ -24,7 +24,7 @@ History = List Event
 abbrev pub Choice : Type 0
 Choice = History → Option ℕ
 
--- The history goes on from q to q': by whatever past q can have come about, q' can by the same and what was added.
+-- From q to q' the history grew by what was added: whatever history q can have, q' can have the same with this behind it.
 abbrev pub GoesOn : {Q : Type 0} → (History → Q → Type 0) → Q → History → Q → Type 0
 GoesOn arises q added q' = (past : History) → arises past q → arises (past ++ added) q'
 

@@ -70,7 +70,7 @@ missing = tick ∷ release 0 ∷ tick ∷ tick ∷ []
 
 -- The same state with nothing but the clock raised.
 abbrev pub clock_alone : State → State
-clock_alone s = record { work = later s.work; queue = s.queue }
+clock_alone s = record s { work = later s.work }
 
 pub record MachineExamples : Type 0 where
   pub table_admitted : admitted three ≡ true

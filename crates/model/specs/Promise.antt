@@ -12,12 +12,17 @@ use Rattle.model.specs.declared.calls.Who.{Who}
 use Rattle.model.specs.declared.calls.Who.TheVariants.{Errand as ForErrand}
 use Rattle.model.specs.declared.duties.Duty.{Duty}
 
+-- The steps of a run compare refusals as lists of numbers. The list is empty where nothing refuses the call; else it is
+-- the refusal's code, which is its number and behind that what goes with it (`refusal_code`).
+
 -- The job of row i that this part of a list follows has had all its ticks, or was called done.
 abbrev pub Finished : List Duty → ℕ → Trace → Type 0
 Finished table i part = ((duty_at table i).cost ≤ row_ticks i part) ⊎ (1 ≤ dones i part)
 
 -- Deadlines: whenever as many ticks as the deadline says have passed since an accepted release, the job has
--- had all its ticks or was called done, before its row's next accepted release.
+-- had all its ticks or was called done, before its row's next accepted release. Any part of the list that follows the
+-- release counts, so also the part that ends just at the deadline. A job that ends late has had fewer ticks than its
+-- cost in that part, so that it is not `Finished` there.
 abbrev pub Deadlines : State → Trace → Type 0
 Deadlines start trace =
     (before during after : Trace) (i : ℕ)
@@ -30,7 +35,9 @@ is_errand (ForErrand n) = true
 is_errand who = false
 
 -- Spare ticks: an accepted tick before which an errand waited went to an errand exactly when no lawful future
--- misses, from the rows as they were and the clock raised by 1.
+-- misses, from the rows as they were and the clock raised by 1. The machine leaves open which errand a queue names, so
+-- the calls before the tick may lead to several states: it is said of every state that they, with their answers, can
+-- lead to, where the tick and the rest of the list can follow.
 abbrev pub SpareTicks : State → Trace → State → Type 0
 SpareTicks start trace end =
     (before after : Trace) (s s' : State) (slack : ℕ) (who : Who)
@@ -56,7 +63,8 @@ pub record Promise (start : State) (trace : Trace) (end : State) : Type 0 where
   pub accounts : Accounts start.queue trace end.queue
 
 -- It holds of every run from any state whose work is kept over an admitted table, whatever the queue holds at the
--- start. A fresh state over an admitted table is one: see `Always`.
+-- start. The fresh work of an admitted table is kept (`KeptAlways.at_the_start`). That the queue's meaning is sound asks
+-- nothing of anybody who starts a machine: whatever is a queue promises it of its meaning at all times.
 abbrev pub EveryRunKeepsThePromise : Type 0
 EveryRunKeepsThePromise =
     (start : State) (trace : Trace) (end : State)

@@ -27,7 +27,7 @@ none_released = replicate 3 (Idle 0)
 abbrev pub whole : List Duty
 whole = duty 4 4 4 ∷ []
 
--- A worked figure of Davis, On Exploiting Spare Capacity in Hard Real-Time Systems, at clock 2.
+-- A worked figure of Davis's thesis (see src/lib.rt), at clock 2.
 abbrev pub figure : List Duty
 figure = duty 1 4 6 ∷ duty 3 6 10 ∷ duty 1 11 12 ∷ []
 
