@@ -1,7 +1,7 @@
 -- Histories, call by call: an errand that has a tick is the one that the queue named, so that ticks go by its choice.
-use Rattle.std.proofs.Common.{◌≡◌, ℕ, Bool, true, false, [], ◌∷◌, ◌++◌, Some, None, Ok, Err, Option, sym, refl, ap, ◌∙◌, subst, append_assoc, append-nil}
+use Rattle.std.proofs.Common.{◌≡◌, ℕ, Bool, true, false, [], ◌∷◌, ◌++◌, Some, None, Ok, Err, Option, sym, refl, ap, ◌∙◌, subst, append_assoc, append-nil, ⊎_elim}
 use Rattle.std.proofs.lemmas.Bool.{both_ways}
-use Rattle.model.specs.Histories.{Chosen, GoesOn, History, Choice, by_call, history}
+use Rattle.model.specs.Histories.{Chosen, GoesOn, History, Choice, by_call, by_turn, history}
 use Rattle.model.specs.Machine.{Work, State, Step, ServedOrLeft, SparedOrRun, duty_turn, errand_due, waits}
 use Rattle.model.specs.Promise.{is_errand}
 use Rattle.model.specs.Queues.{Meaning}
@@ -13,6 +13,7 @@ use Rattle.model.specs.declared.calls.Call.TheVariants.{Tick}
 use Rattle.model.specs.declared.calls.Who.{Who}
 use Rattle.model.specs.declared.calls.Who.TheVariants.{Errand as ForErrand}
 use Rattle.model.proofs.SpareTicks.{no_errand}
+use Rattle.model.proofs.Ticks.{turn_cases}
 
 -- The errand that has a tick is the one that the queue named.
 turn_named :
@@ -40,6 +41,18 @@ pub step_named :
 step_named s call answer s' one slack n tick ticked =
     tick_named s slack n s'
     (subst (λ (a : Answer). Step s Tick a s') ticked (subst (λ (c : Call). Step s c answer s') tick one))
+
+-- A tick that is not to spare adds nothing to a queue's history: it names no errand.
+pub run_adds_nothing :
+    (due : Bool) (w : Work) (who : Who) (w' : Work) → SparedOrRun due w (Some who) w' → by_turn who ≡ []
+run_adds_nothing true w who w' (spared, then) = cc
+run_adds_nothing false w who w' (worked, then) =
+    let same : who ≡ duty_turn w = cc in
+    rw same
+    (⊎_elim
+    (λ (none, idle). rw (none, duty_turn) refl)
+    (λ (k, found, first). rw (found, duty_turn) refl)
+    (turn_cases w.rows))
 
 -- A queue that stays as it was goes on with nothing added.
 pub stays_on : {Q : Type 0} (arises : History → Q → Type 0) (q q' : Q) → q' ≡ q → GoesOn arises q [] q'
