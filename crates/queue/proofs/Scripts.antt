@@ -12,7 +12,7 @@ use Rattle.model.specs.declared.calls.Call.{Call}
 use Rattle.model.specs.declared.calls.Call.TheVariants.{Tick}
 use Rattle.model.specs.declared.calls.Who.TheVariants.{Errand as ForErrand}
 use Rattle.queue.specs.Scripts.{RunOf}
-use Rattle.queue.proofs.Answering.{Answering, next_of}
+use Rattle.queue.proofs.NextSteps.{AnswersCalls, next_of}
 
 -- One call before the others: if it is a tick that an errand had, that errand is the one that the choice chooses.
 chosen_first : (choice : Choice) (past : History) (call : Call) (answer : Answer) (rest : Trace)
@@ -29,7 +29,7 @@ chosen_first choice past call answer rest one others (x ∷ before) after slack 
     ∙ ap choice (sym (append_assoc past (by_call call answer) (history before)))
     ∙ others before after slack n more
 
-module _ (arises : History → Meaning → Type 0) (choice : Choice) (answering : Answering arises choice) where
+module _ (arises : History → Meaning → Type 0) (choice : Choice) (answering : AnswersCalls arises choice) where
   pub script_runs : (past : History) (s : State) → arises past s.queue → (script : List Call) → RunOf choice past s script
   script_runs past s arose [] =
       record { trace = []; end = s; run = stay; chosen = chosen_none choice past; made = refl }

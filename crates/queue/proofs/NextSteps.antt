@@ -18,10 +18,10 @@ use Rattle.model.specs.declared.refusals.Refusal.{Refusal}
 use Rattle.model.specs.declared.refusals.Refusal.TheVariants.{ClockEnded}
 use Rattle.model.specs.declared.rows.RowCall.{RowCall}
 use Rattle.model.specs.declared.rows.RowCall.TheVariants.{Release as RowRelease, Done as RowDone}
-use Rattle.queue.proofs.Telling.{call_told}
+use Rattle.queue.proofs.RefusalCodes.{call_refusal_is}
 
 -- A kind of queue, by what one means after each past: it answers each call, and then means what one of the kind does after that call.
-pub record Answering (arises : History → Meaning → Type 0) (choice : Choice) : Type 0 where
+pub record AnswersCalls (arises : History → Meaning → Type 0) (choice : Choice) : Type 0 where
   pub sound : (past : History) (m : Meaning) → arises past m → Sound m
   pub chooses : (past : History) (m : Meaning) → arises past m → m.named ≡ choice past
   pub puts :
@@ -54,7 +54,7 @@ names_some [] named places right waiting none = cc
 names_some (e ∷ es) None places right waiting none = cc
 names_some (e ∷ es) (Some n) places right waiting none = cc
 
-module _ (arises : History → Meaning → Type 0) (choice : Choice) (answering : Answering arises choice) where
+module _ (arises : History → Meaning → Type 0) (choice : Choice) (answering : AnswersCalls arises choice) where
   -- The answer of a call and the next state, in which the queue has what the call added behind its past.
   pub record Next (past : History) (s : State) (call : Call) : Type 0 where
     pub answer : Answer
@@ -135,7 +135,7 @@ module _ (arises : History → Meaning → Type 0) (choice : Choice) (answering 
   -- Every call has one.
   pub next_of : (past : History) (s : State) → arises past s.queue → (call : Call) → Next past s call
   next_of past s arose (Release i) =
-      let (r, told) = call_told s.work i RowRelease in
+      let (r, told) = call_refusal_is s.work i RowRelease in
       let (w', one) = row_called s.work i RowRelease r told in
       record {
         answer = plain_answer r;
@@ -144,7 +144,7 @@ module _ (arises : History → Meaning → Type 0) (choice : Choice) (answering 
         arose = stays_on arises s.queue s.queue refl past arose;
       }
   next_of past s arose (Done i) =
-      let (r, told) = call_told s.work i RowDone in
+      let (r, told) = call_refusal_is s.work i RowDone in
       let (w', one) = row_called s.work i RowDone r told in
       record {
         answer = plain_answer r;
