@@ -1,4 +1,6 @@
--- What the calls on a list make of its meaning.
+-- What the calls of a queue make of its list. A put inserts a slot, a spend writes over the first or removes it, and a take removes the
+-- one at the place of its number. From what the ordered list promises of these (`Inserts`, `Replaces`, `Removes`) each lemma concludes
+-- what the queue promises of the meaning (`Put`, `Spend`, `Take`), which slots the list then holds, and which are free.
 use Rattle.std.proofs.Common.{◌≡◌, ℕ, suc, ◌+◌, ◌-◌, ◌<◌, ◌≤◌, Bool, true, false, cond, not, ◌&&◌, eqb, leb, List, [], ◌∷◌, drop, get_or, length, set, is_some, Some, None, Ok, Err, Result, sym, refl, ap, ◌∙◌, subst, sub-one, arith, eq-eqb}
 use lib.ListN.{length-map}
 use Rattle.std.specs.List.{cons_option, find, slice_get, remove, position_or_len}
@@ -33,13 +35,14 @@ first_some (x ∷ ss) s h = let same : x ≡ s = cc in ap (λ y. y ∷ ss) same
 first_found : (ss : List Slot) (s : Slot) → ss ≡ s ∷ drop 1 ss → find (numbered s.errand.number) ss ≡ Some s
 first_found ss s was = ap (find (numbered s.errand.number)) was ∙ cond-true _ _ _ (eq-eqb s.errand.number _ refl)
 
--- Put
+-- A put of an errand whose number waits is refused 9.
 pub put_waits : {R : _} (X : Type 0) (l : OrderedList Slot R) (e : Errand) (why : Refusal) → errand_within e ≡ true →
     is_some (place_of e.number (held l)) ≡ true → refusal_code why ≡ 9 ∷ [] → Put {X = X} (list_meaning l) e (Err why) (list_meaning l)
 put_waits X l e why within some number =
     let waits = sym (waits_somewhere e.number (held l)) ∙ some in
     (refused_waits (list_meaning l) e within waits ∙ sym number, refl)
 
+-- A put of any other inserts the slot that was made for it, or is refused 10.
 pub put_inserted : {X : Type 0} {R : _} (l m : OrderedList Slot R) (s : Slot) (e : Errand) (r : Result X Refusal) →
     Inserts ranks l s r m → is_some (place_of e.number (held l)) ≡ false → s.errand ≡ e →
     errand_within e ≡ true → distinct (errands (held l)) ≡ true → Put (list_meaning l) e r (list_meaning m)
@@ -69,13 +72,13 @@ pub once_put : {X : Type 0} {R : _} (l m : OrderedList Slot R) (e : Errand) (r :
 once_put l m e (Ok x) put once = put.1.sound.each_once
 once_put l m e (Err why) put once = ap (λ k. distinct k.waiting) put.1 ∙ once
 
--- Spend
 -- A unit was spent: what the list means now, which slots it holds, and which are free.
 pub record UnitSpent {R : _} (l : OrderedList Slot R) (n : ℕ) (m : OrderedList Slot R) : Type 0 where
   pub spends : Spend (list_meaning l) (Some n) (list_meaning m)
   pub slots : held m ≡ first_spent (held l)
   pub free : free_slots m ≡ free_after (held l) (free_slots l) (was_spent n ∷ [])
 
+-- The last unit of an errand: its slot was removed.
 pub last_spent : {R : _} (l m : OrderedList Slot R) (s : Slot) (e : Errand) → slice_get (held l) 0 ≡ Some s → e ≡ s.errand →
     e.units ≤ 1 → Removes l 0 (slice_get (held l) 0) m → distinct (errands (held l)) ≡ true → UnitSpent l e.number m
 last_spent l m s e at is last removed once =
@@ -128,6 +131,7 @@ less_within s more within =
     let less = s.errand.units - 1 in
     and_from _ _ (and_from _ _ (le-leb 1 less (omega arith)) (le-leb less 4096 (omega arith))) p.1
 
+-- Any other unit: its slot was written over.
 pub unit_spent : {R : _} (l m : OrderedList Slot R) (s t : Slot) (e : Errand) (took : Bool) → slice_get (held l) 0 ≡ Some s →
     e ≡ s.errand → 1 < e.units → t ≡ with_units s (e.units - 1) → took ≡ fits ranks (slice_get (held l) 0) t →
     Replaces l 0 t took m → distinct (errands (held l)) ≡ true → UnitSpent l e.number m
@@ -161,7 +165,7 @@ unit_spent l m s t e took at is units new fit replaced once =
 pub once_spent : {R : _} (l m : OrderedList Slot R) (n : ℕ) → UnitSpent l n m → distinct (errands (held m)) ≡ true
 once_spent l m n done = done.spends.1.2.sound.each_once
 
--- Take
+-- The slots without the one at the place of a number are those without the number.
 without_place : (n : ℕ) (ss : List Slot) → remove ss (position_or_len (numbered n) ss) ≡ without n ss
 without_place n [] = refl
 without_place n (s ∷ ss) =
@@ -198,7 +202,7 @@ errand_taken l m n i s e place read is removed once =
       free = done.free ∙ ap (λ o. cons_option o (free_slots l)) (sym found);
     }
 
--- Where the number waits nowhere, nothing changes.
+-- A take of a number that waits nowhere changes nothing.
 pub take_missing : {R : _} (l : OrderedList Slot R) (n : ℕ) (r : Result ℕ Refusal) → place_of n (held l) ≡ None →
     r ≡ Err NotWaiting → Take (list_meaning l) n r (list_meaning l)
 take_missing l n r none is =
