@@ -5,23 +5,24 @@ use Rattle.std.specs.List.{filter_map}
 use Rattle.std.specs.Option.{option_map}
 use Rattle.std.proofs.lemmas.List.{map_push}
 use Rattle.model.proofs.Histories.{stays_on}
-use Rattle.model.specs.Histories.{GoesOn, History, by_put, by_spend, was_put, was_spent, was_taken}
-use Rattle.model.specs.Queues.{Spend, distinct, one_less}
+use Rattle.model.specs.Histories.{GoesOn, History, by_put, was_put, was_spent, was_taken}
+use Rattle.model.specs.Queues.{distinct, one_less}
 use Rattle.model.specs.declared.errands.Errand.{Errand}
 use Rattle.model.specs.declared.refusals.Refusal.{Refusal}
 use Rattle.list.specs.Held.{held, Inserts}
 use Rattle.list.specs.Order.{placed}
 use Rattle.list.specs.declared.ordered.OrderedList.{OrderedList}
 use Rattle.queue.specs.Arrivals.{Arrival, Rated, arrived, taken, rated, spent}
-use Rattle.queue.specs.Lists.{errands, list_meaning}
+use Rattle.queue.specs.Lists.{errands}
 use Rattle.queue.specs.Orders.{Arises, Arose, rated_in}
 use Rattle.queue.specs.Ranks.{ranks}
 use Rattle.queue.specs.Slots.{HoldsErrand, with_units}
 use Rattle.queue.specs.declared.slots.Slot.{Slot}
-use Rattle.queue.proofs.After.{taken_slot, first_spent, less_slot, without, spent_slot}
+use Rattle.queue.proofs.After.{taken_slot, less_slot, spent_slot}
+use Rattle.queue.proofs.Calls.{ErrandTaken, UnitSpent}
 use Rattle.queue.proofs.AtNumber.{at_number, map_at_number}
 use Rattle.queue.proofs.Waiting.{after_more, less_waits, waits_as}
-use Rattle.queue.proofs.PlacedAll.{each_placed_all, taken_keeps_rating, placed_all_more, first_spent_of_none, first_spent_is_spent, without_is_taken, spent_keeps_rating}
+use Rattle.queue.proofs.PlacedAll.{each_placed_all, taken_keeps_rating, placed_all_more, first_spent_is_spent, without_is_taken, spent_keeps_rating}
 
 -- Of errands with their ratings, the one of a number becomes what is made of it, if anything.
 abbrev rated_at : (Rated → Option Rated) → ℕ → Rated → Option Rated
@@ -93,28 +94,25 @@ module _ (worth units : Errand → ℕ) where
   arises_put l m s e (Err why) holds done past arose =
       stays_on (Arises worth units) (held l) (held m) (ap held done.2) past arose
 
-  pub arises_spend : {R : _} (l m : OrderedList Slot R) (r : Option ℕ) → Spend (list_meaning l) r (list_meaning m) →
-      distinct (errands (held l)) ≡ true → held m ≡ first_spent (held l) →
-      GoesOn (Arises worth units) (held l) (by_spend r) (held m)
-  arises_spend l m None spends once is past arose =
-      stays_on (Arises worth units) (held l) (held m) (is ∙ sym (first_spent_of_none (held l) spends.0)) past arose
-  arises_spend l m (Some n) spends once is past arose =
+  pub arises_spend : {R : _} (l m : OrderedList Slot R) (n : ℕ) → distinct (errands (held l)) ≡ true → UnitSpent l n m →
+      GoesOn (Arises worth units) (held l) (was_spent n ∷ []) (held m)
+  arises_spend l m n once done past arose =
       record {
         came = filter_map (spent_slot n) arose.came;
         by_rank =
-            is ∙ first_spent_is_spent n (held l) spends.0 once ∙ ap (filter_map (spent_slot n)) arose.by_rank
+            done.slots ∙ first_spent_is_spent n (held l) done.spends.0 once ∙ ap (filter_map (spent_slot n)) arose.by_rank
             ∙ each_placed_all (spent_slot n) (spent_keeps_rating n) [] arose.came refl;
         arrivals =
             came_spent n arose.came past arose.arrivals ∙ ap (map rates) (sym (after_more [] past (was_spent n)));
       }
 
-  pub arises_take : {R : _} (l m : OrderedList Slot R) (n : ℕ) → distinct (errands (held l)) ≡ true →
-      held m ≡ without n (held l) → GoesOn (Arises worth units) (held l) (was_taken n ∷ []) (held m)
-  arises_take l m n once is past arose =
+  pub arises_take : {R : _} (l m : OrderedList Slot R) (n given : ℕ) → distinct (errands (held l)) ≡ true → ErrandTaken l n given m →
+      GoesOn (Arises worth units) (held l) (was_taken n ∷ []) (held m)
+  arises_take l m n given once done past arose =
       record {
         came = filter_map (taken_slot n) arose.came;
         by_rank =
-            is ∙ without_is_taken n (held l) once ∙ ap (filter_map (taken_slot n)) arose.by_rank
+            done.slots ∙ without_is_taken n (held l) once ∙ ap (filter_map (taken_slot n)) arose.by_rank
             ∙ each_placed_all (taken_slot n) (taken_keeps_rating n) [] arose.came refl;
         arrivals = came_taken n arose.came past arose.arrivals ∙ ap (map rates) (sym (after_more [] past (was_taken n)));
       }

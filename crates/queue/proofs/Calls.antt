@@ -42,20 +42,27 @@ put_waits X l e why within some number =
     let waits = sym (waits_somewhere e.number (held l)) ∙ some in
     (refused_waits (list_meaning l) e within waits ∙ sym number, refl)
 
--- A put of any other inserts the slot that was made for it, or is refused 10.
+-- A list in which no number waits twice, and a slot for an errand within its limits whose number does not wait there.
+pub record NewErrand {R : _} (l : OrderedList Slot R) (s : Slot) (e : Errand) : Type 0 where
+  pub absent : is_some (place_of e.number (held l)) ≡ false
+  pub errand : s.errand ≡ e
+  pub within : errand_within e ≡ true
+  pub once : distinct (errands (held l)) ≡ true
+
+-- A put of such an errand inserts the slot, or is refused 10.
 pub put_inserted : {X : Type 0} {R : _} (l m : OrderedList Slot R) (s : Slot) (e : Errand) (r : Result X Refusal) →
-    Inserts ranks l s r m → is_some (place_of e.number (held l)) ≡ false → s.errand ≡ e →
-    errand_within e ≡ true → distinct (errands (held l)) ≡ true → Put (list_meaning l) e r (list_meaning m)
-put_inserted l m s e (Ok x) done none is within once =
+    NewErrand l s e → Inserts ranks l s r m → Put (list_meaning l) e r (list_meaning m)
+put_inserted l m s e (Ok x) new done =
+    let is = new.errand in
     let absent : look (errands (held l)) s.errand.number ≡ None =
-    ap (λ k. look (errands (held l)) k.number) is ∙ waits_nowhere e.number (held l) none in
-    let inside : errand_within s.errand ≡ true = ap errand_within is ∙ within in
+    ap (λ k. look (errands (held l)) k.number) is ∙ waits_nowhere e.number (held l) new.absent in
+    let inside : errand_within s.errand ≡ true = ap errand_within is ∙ new.within in
     subst (λ k. Put (list_meaning l) k (Ok x) (list_meaning m)) is (
       refused_not (list_meaning l) s.errand inside absent (omega (arith, done.0, length-map (held l) (λ s. s.errand))),
-      placed_changes l m s _ inside absent once done.1,
+      placed_changes l m s _ inside absent new.once done.1,
     )
-put_inserted l m s e (Err why) done none is within once = (
-  refused_full (list_meaning l) e within (waits_nowhere e.number (held l) none)
+put_inserted l m s e (Err why) new done = (
+  refused_full (list_meaning l) e new.within (waits_nowhere e.number (held l) new.absent)
       (omega (arith, done.0, length-map (held l) (λ s. s.errand)))
       ∙ sym done.1,
   ap list_meaning done.2,
@@ -78,10 +85,19 @@ pub record UnitSpent {R : _} (l : OrderedList Slot R) (n : ℕ) (m : OrderedList
   pub slots : held m ≡ first_spent (held l)
   pub free : free_slots m ≡ free_after (held l) (free_slots l) (was_spent n ∷ [])
 
--- The last unit of an errand: its slot was removed.
-pub last_spent : {R : _} (l m : OrderedList Slot R) (s : Slot) (e : Errand) → slice_get (held l) 0 ≡ Some s → e ≡ s.errand →
-    e.units ≤ 1 → Removes l 0 (slice_get (held l) 0) m → distinct (errands (held l)) ≡ true → UnitSpent l e.number m
-last_spent l m s e at is last removed once =
+-- A list in which no number waits twice, and whose first slot holds an errand.
+pub record FirstErrand {R : _} (l : OrderedList Slot R) (s : Slot) (e : Errand) : Type 0 where
+  pub at : slice_get (held l) 0 ≡ Some s
+  pub errand : e ≡ s.errand
+  pub once : distinct (errands (held l)) ≡ true
+
+-- The last unit of this errand: its slot was removed.
+pub last_spent : {R : _} (l m : OrderedList Slot R) (s : Slot) (e : Errand) → FirstErrand l s e → e.units ≤ 1 →
+    Removes l 0 (slice_get (held l) 0) m → UnitSpent l e.number m
+last_spent l m s e front last removed =
+    let at = front.at in
+    let is = front.errand in
+    let once = front.once in
     let was = first_some (held l) s at in
     let first = ap errands was in
     let over : s.errand.units ≤ 1 = omega (arith, ap (λ k. k.units) is) in
@@ -132,10 +148,13 @@ less_within s more within =
     and_from _ _ (and_from _ _ (le-leb 1 less (omega arith)) (le-leb less 4096 (omega arith))) p.1
 
 -- Any other unit: its slot was written over.
-pub unit_spent : {R : _} (l m : OrderedList Slot R) (s t : Slot) (e : Errand) (took : Bool) → slice_get (held l) 0 ≡ Some s →
-    e ≡ s.errand → 1 < e.units → t ≡ with_units s (e.units - 1) → took ≡ fits ranks (slice_get (held l) 0) t →
-    Replaces l 0 t took m → distinct (errands (held l)) ≡ true → UnitSpent l e.number m
-unit_spent l m s t e took at is units new fit replaced once =
+pub unit_spent : {R : _} (l m : OrderedList Slot R) (s : Slot) (e : Errand) {t : Slot} {took : Bool} → FirstErrand l s e →
+    1 < e.units → t ≡ with_units s (e.units - 1) → took ≡ fits ranks (slice_get (held l) 0) t → Replaces l 0 t took m →
+    UnitSpent l e.number m
+unit_spent l m s e {t} {took} front units new fit replaced =
+    let at = front.at in
+    let is = front.errand in
+    let once = front.once in
     let was = first_some (held l) s at in
     let first = ap errands was in
     let f = first_once s.errand _ (sym (ap distinct first) ∙ once) in
@@ -180,12 +199,20 @@ pub record ErrandTaken {R : _} (l : OrderedList Slot R) (n units : ℕ) (m : Ord
   pub slots : held m ≡ without n (held l)
   pub free : free_slots m ≡ free_after (held l) (free_slots l) (was_taken n ∷ [])
 
-pub errand_taken : {R : _} (l m : OrderedList Slot R) (n i : ℕ) (s : Slot) (e : Errand) → place_of n (held l) ≡ Some i →
-    s ≡ get_or (held l) i s → e ≡ s.errand → Removes l i (slice_get (held l) i) m → distinct (errands (held l)) ≡ true →
-    ErrandTaken l n e.units m
-errand_taken l m n i s e place read is removed once =
+-- A list in which no number waits twice, and where the slot at the place of a number holds an errand.
+pub record ErrandAt {R : _} (l : OrderedList Slot R) (n i : ℕ) (s : Slot) (e : Errand) : Type 0 where
+  pub place : place_of n (held l) ≡ Some i
+  pub read : s ≡ get_or (held l) i s
+  pub errand : e ≡ s.errand
+  pub once : distinct (errands (held l)) ≡ true
+
+pub errand_taken : {R : _} (l m : OrderedList Slot R) {n i : ℕ} {s : Slot} {e : Errand} → ErrandAt l n i s e →
+    Removes l i (slice_get (held l) i) m → ErrandTaken l n e.units m
+errand_taken l m {n} {i} {s} {e} here removed =
+    let place = here.place in
+    let is = here.errand in
     let within = (position-Some (numbered n) (held l) i s place).0 in
-    let at : slice_get (held l) i ≡ Some s = slice_get_read (held l) (length (held l)) i s refl within read in
+    let at : slice_get (held l) i ≡ Some s = slice_get_read (held l) (length (held l)) i s refl within here.read in
     let done : Becomes l (remove (held l) i) (s ∷ free_slots l) m = subst (λ o. Removes l i o m) at removed in
     let found : find (numbered n) (held l) ≡ Some s = found_at n (held l) i place ∙ at in
     let waits : look (errands (held l)) n ≡ Some s.errand = look_is_found n (held l) ∙ ap (option_map (λ x. x.errand)) found in
@@ -196,7 +223,7 @@ errand_taken l m n i s e place read is removed once =
         refl,
         subst (λ k. Changes (list_meaning l) k None (list_meaning m)) (look_number (errands (held l)) n s.errand waits)
             (removed_changes l m i s.errand _ (slice_get-map (λ x. x.errand) (held l) i ∙ ap (option_map (λ x. x.errand)) at)
-            once done),
+            here.once done),
       );
       slots = done.holds ∙ ap (remove (held l)) (sym (place_is n (held l) i place)) ∙ without_place n (held l);
       free = done.free ∙ ap (λ o. cons_option o (free_slots l)) (sym found);

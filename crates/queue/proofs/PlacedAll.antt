@@ -140,7 +140,3 @@ first_spent_is_spent n (s ∷ ss) named once =
     ∙ sym
     (ap (λ o. cons_option o (filter_map (spent_slot n) ss)) (cond-true _ _ _ (eq-eqb _ _ same))
     ∙ ap (cons_option (cond (leb s.errand.units 1) None (Some less))) rest)
-
-pub first_spent_of_none : (ss : List Slot) → first_number (errands ss) ≡ None → ss ≡ first_spent ss
-first_spent_of_none [] none = refl
-first_spent_of_none (s ∷ ss) none = cc
