@@ -27,7 +27,7 @@ use Rattle.queue.proofs.LookupsAfter.{look_first}
 use Rattle.queue.proofs.Meanings.{refused_waits, refused_full, refused_not, placed_changes, removed_changes, first_changes}
 
 -- The first slot, if there is one.
-pub first_some : (ss : List Slot) (s : Slot) → slice_get ss 0 ≡ Some s → ss ≡ s ∷ drop 1 ss
+first_some : (ss : List Slot) (s : Slot) → slice_get ss 0 ≡ Some s → ss ≡ s ∷ drop 1 ss
 first_some [] s h = cc
 first_some (x ∷ ss) s h = let same : x ≡ s = cc in ap (λ y. y ∷ ss) same
 

@@ -62,7 +62,7 @@ placed_once before s (x ∷ xs) within none once =
     }))
 
 -- Where an errand is removed, its number finds none, and every other number finds what it found before.
-pub removed_none : (es : List Errand) (i k : ℕ) → look es k ≡ None → look (remove es i) k ≡ None
+removed_none : (es : List Errand) (i k : ℕ) → look es k ≡ None → look (remove es i) k ≡ None
 removed_none [] zero k h = refl
 removed_none [] (suc i) k h = refl
 removed_none (x ∷ es) zero k h = none_behind x es k h
@@ -88,7 +88,7 @@ look_removed_other (x ∷ es) (suc i) e k at apart =
     ap (cond (eqb x.number k) (Some x)) (look_removed_other es i e k at apart)
 
 -- No number waits twice, so none is left of it.
-pub nth_waits : (es : List Errand) (i : ℕ) (e : Errand) → slice_get es i ≡ Some e → look es e.number ≡ None → ⊥
+nth_waits : (es : List Errand) (i : ℕ) (e : Errand) → slice_get es i ≡ Some e → look es e.number ≡ None → ⊥
 nth_waits [] i e at none = cc
 nth_waits (x ∷ es) zero e at none =
     let same : x ≡ e = cc in none_apart x es _ none (ap (λ y. y.number) same)
