@@ -14,7 +14,7 @@ use Rattle.model.specs.Refusals.{refusal_code}
 use Rattle.model.specs.declared.errands.Errand.{Errand}
 use Rattle.model.specs.declared.refusals.Refusal.{Refusal}
 use Rattle.model.specs.declared.refusals.Refusal.TheVariants.{NotWaiting}
-use Rattle.list.specs.Held.{held, free_slots, fits, Becomes, Inserts, Removes, Replaces}
+use Rattle.list.specs.Held.{held, free_slots, some_same_rank, Becomes, Inserts, Removes, Replaces}
 use Rattle.list.specs.Order.{same_rank}
 use Rattle.list.specs.declared.ordered.OrderedList.{OrderedList}
 use Rattle.queue.specs.Lists.{errands, first_number, free_after, list_meaning, numbered, place_of, with_last_unit}
@@ -128,10 +128,10 @@ keeps_rank s units =
     and_from _ _ (not_from_false _ same) (not_from_false _ same)
 
 written : {R : _} (l m : OrderedList Slot R) (s t : Slot) (units : ℕ) (took : Bool) → slice_get (held l) 0 ≡ Some s →
-    t ≡ with_units s units → took ≡ fits ranks (slice_get (held l) 0) t → Replaces l 0 t took m →
+    t ≡ with_units s units → took ≡ some_same_rank ranks (slice_get (held l) 0) t → Replaces l 0 t took m →
     Becomes l (set (held l) 0 (with_units s units)) (free_slots l) m
 written l m s t units took at is fit replaced =
-    let yes : took ≡ true = fit ∙ ap (λ o. fits ranks o t) at ∙ ap (fits ranks (Some s)) is ∙ keeps_rank s units in
+    let yes : took ≡ true = fit ∙ ap (λ o. some_same_rank ranks o t) at ∙ ap (some_same_rank ranks (Some s)) is ∙ keeps_rank s units in
     subst (λ k. Replaces l 0 k true m) is (subst (λ b. Replaces l 0 t b m) yes replaced)
 
 one_less_is : (s : Slot) → 1 < s.errand.units → Some (with_units s (s.errand.units - 1)).errand ≡ one_less s.errand
@@ -149,7 +149,7 @@ less_within s more within =
 
 -- Any other unit: its slot was written over.
 pub unit_spent : {R : _} (l m : OrderedList Slot R) (s : Slot) (e : Errand) {t : Slot} {took : Bool} → FirstErrand l s e →
-    1 < e.units → t ≡ with_units s (e.units - 1) → took ≡ fits ranks (slice_get (held l) 0) t → Replaces l 0 t took m →
+    1 < e.units → t ≡ with_units s (e.units - 1) → took ≡ some_same_rank ranks (slice_get (held l) 0) t → Replaces l 0 t took m →
     UnitSpent l e.number m
 unit_spent l m s e {t} {took} front units new fit replaced =
     let at = front.at in
