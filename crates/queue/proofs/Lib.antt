@@ -14,5 +14,6 @@ mod NextSteps
 mod PlacedAll
 pub mod QueueAfter
 mod RefusalCodes
+mod SameQueue
 mod Scripts
 mod Waiting

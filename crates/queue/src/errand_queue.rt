@@ -76,12 +76,12 @@ impl<'a, R: Rule> Queue for ErrandQueue<'a, R> {
 
     ghost chooses = { λ past q arose. list_chooses R.worth R.units past q.list arose };
 
-    ghost untouched = { λ q r. (r.list ≡ q.list) × (r.beyond ≡ q.beyond) };
+    ghost untouched = { λ q r. r ≡ q };
 
     fn put(&mut self, errand: Errand) -> Result<(), Refusal>
         ensures means { Put (list_meaning self.old.list) errand result (list_meaning self.new.list) }
         ensures history { GoesOn (Arises R.worth R.units) (held self.old.list) (by_put errand result) (held self.new.list) }
-        ensures untouched { by_put errand result ≡ [] → (self.new.list ≡ self.old.list) × (self.new.beyond ≡ self.old.beyond) }
+        ensures untouched { by_put errand result ≡ [] → self.new ≡ self.old }
         ensures rest { free_slots self.new.list ≡ free_after (held self.old.list) (free_slots self.old.list) (by_put errand result) }
         ensures beyond { self.new.beyond ≡ self.old.beyond }
     {
@@ -102,7 +102,7 @@ impl<'a, R: Rule> Queue for ErrandQueue<'a, R> {
     fn spend(&mut self) -> Option<u32>
         ensures means { Spend (list_meaning self.old.list) result (list_meaning self.new.list) }
         ensures history { GoesOn (Arises R.worth R.units) (held self.old.list) (by_spend result) (held self.new.list) }
-        ensures untouched { by_spend result ≡ [] → (self.new.list ≡ self.old.list) × (self.new.beyond ≡ self.old.beyond) }
+        ensures untouched { by_spend result ≡ [] → self.new ≡ self.old }
         ensures rest { free_slots self.new.list ≡ free_after (held self.old.list) (free_slots self.old.list) (by_spend result) }
         ensures beyond { self.new.beyond ≡ self.old.beyond }
     {
@@ -119,7 +119,7 @@ impl<'a, R: Rule> Queue for ErrandQueue<'a, R> {
     fn take(&mut self, number: u32) -> Result<u32, Refusal>
         ensures means { Take (list_meaning self.old.list) number result (list_meaning self.new.list) }
         ensures history { GoesOn (Arises R.worth R.units) (held self.old.list) (by_take number result) (held self.new.list) }
-        ensures untouched { by_take number result ≡ [] → (self.new.list ≡ self.old.list) × (self.new.beyond ≡ self.old.beyond) }
+        ensures untouched { by_take number result ≡ [] → self.new ≡ self.old }
         ensures rest { free_slots self.new.list ≡ free_after (held self.old.list) (free_slots self.old.list) (by_take number result) }
         ensures beyond { self.new.beyond ≡ self.old.beyond }
     {
@@ -130,8 +130,8 @@ impl<'a, R: Rule> Queue for ErrandQueue<'a, R> {
     }
 }
 
-/// After any number of refused calls and of spends that find nothing, one after the other, the list of a queue and every slot that it
-/// was handed are as they were.
+/// After any number of refused calls and of spends that find nothing, one after the other, a queue is the same value, with every slot
+/// that it was handed.
 pub fn left_as_it_was<R: Rule>()
-    ensures { (q r : ErrandQueue R R.Rule) → Left ⟦<ErrandQueue<'static, R> as Queue>⟧.untouched q r → (r.list ≡ q.list) × (r.beyond ≡ q.beyond) }
+    ensures { (q r : ErrandQueue R R.Rule) → Left ⟦<ErrandQueue<'static, R> as Queue>⟧.untouched q r → r ≡ q }
 {}

@@ -5,6 +5,7 @@ use Rattle.list.specs.Held.{held}
 use Rattle.queue.specs.Lists.{place_of}
 use Rattle.queue.proofs.Arises.{arises_put, still_arose}
 use Rattle.queue.proofs.Calls.{NewErrand, free_put, once_put, put_inserted, put_waits}
+use Rattle.queue.proofs.SameQueue.{refused_put, same_queue}
 use Rattle.queue.proofs.errand_queue.ErrandQueueQueue.put.Goals as goal
 
 pub returns-then-is_some-clause-means : goal.returns-then-is_some-clause-means
@@ -47,3 +48,7 @@ returns-clause-history g c =
 pub returns-clause-rest : goal.returns-clause-rest
 returns-clause-rest g c =
     free_put c.args.self.now.list c.insert.new.self c.in_ok-slot.slot c.args.errand c.insert.result c.insert.ensures
+
+pub returns-clause-untouched : goal.returns-clause-untouched
+returns-clause-untouched g c nothing =
+    same_queue c.args.self.now _ (refused_put c.args.self.now.list c.insert.new.self c.in_ok-slot.slot c.args.errand c.insert.result nothing c.insert.ensures) refl refl
