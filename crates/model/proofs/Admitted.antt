@@ -1,12 +1,11 @@
 -- What an admitted table gives: the limits of each duty, and for each row a time within its deadline that suffices
 -- for it and the rows above it.
-use Rattle.std.proofs.Common.{◌≡◌, ℕ, zero, suc, ◌<◌, ◌≤◌, true, not, ◌&&◌, leb, List, [], ◌∷◌, length, take, is_some, None, arith}
+use Rattle.std.proofs.Common.{◌≡◌, ℕ, zero, suc, ◌<◌, ◌≤◌, true, not, ◌&&◌, nat_le, List, [], ◌∷◌, length, take, is_some, None, arith}
 use Rattle.std.proofs.lemmas.Bool.{and_parts, leb-true, not-false, not-true}
 use Rattle.std.proofs.lemmas.Bool.Decides.{nat_tests}
-use Rattle.model.specs.Table.{busy, within_limits, all_within, suffices, response, late, first_late, admitted, duty_at}
+use Rattle.model.specs.Table.{busy, within_limits, all_within, suffices, response, is_unschedulable, first_unschedulable, admitted, duty_at}
 use Rattle.model.specs.declared.duties.Duty.{Duty}
-use Rattle.model.proofs.Found.{none_is, search_finds}
-use Rattle.model.proofs.Searches.{none_passes}
+use Rattle.model.proofs.Searches.{none_passes, none_is, search_finds}
 
 -- 1 ≤ cost ≤ deadline ≤ separation ≤ 4,096.
 pub record Limits (duty : Duty) : Type 0 where
@@ -37,16 +36,16 @@ limits_at table h i short = limits_of (duty_at table i) (within_at table h i sho
 pub record Admitted (table : List Duty) : Type 0 where
   pub few : length table ≤ 16
   pub within : all_within table ≡ true
-  pub on_time : first_late table ≡ None
+  pub on_time : first_unschedulable table ≡ None
 
 pub admitted_says : (table : List Duty) → admitted table ≡ true → Admitted table
 admitted_says table ok =
-    let (sizes, responses) = and_parts (leb (length table) 16 && all_within table) (not (is_some (first_late table))) ok in
-    let (few, within) = and_parts (leb (length table) 16) (all_within table) sizes in
+    let (sizes, responses) = and_parts (nat_le (length table) 16 && all_within table) (not (is_some (first_unschedulable table))) ok in
+    let (few, within) = and_parts (nat_le (length table) 16) (all_within table) sizes in
     record {
       few = leb-true (length table) 16 few;
       within = within;
-      on_time = none_is (first_late table) (not-true (is_some (first_late table)) responses);
+      on_time = none_is (first_unschedulable table) (not-true (is_some (first_unschedulable table)) responses);
     }
 
 module _ (table : List Duty) (ok : admitted table ≡ true) where
@@ -58,7 +57,7 @@ module _ (table : List Duty) (ok : admitted table ≡ true) where
   pub has_response : (i : ℕ) → i < length table → is_some (response table i) ≡ true
   has_response i short =
       not-false (is_some (response table i))
-      (none_passes (late table) 0 (length table) (admitted_says table ok).on_time i (omega arith) (omega arith))
+      (none_passes (is_unschedulable table) 0 (length table) (admitted_says table ok).on_time i (omega arith) (omega arith))
 
   -- a number of ticks within its deadline that suffices.
   pub admitted_response :

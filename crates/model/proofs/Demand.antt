@@ -1,8 +1,8 @@
 -- What one row needs up to a clock, before and after each thing that can happen to it.
-use Rattle.std.proofs.Common.{◌≡◌, ℕ, pred, ◌+◌, ◌-◌, ◌*◌, ◌<◌, ◌≤◌, max, leb, mul-le-mul_left, arith}
+use Rattle.std.proofs.Common.{◌≡◌, ℕ, pred, ◌+◌, ◌-◌, ◌*◌, ◌<◌, ◌≤◌, max, nat_le, mul-le-mul_left, arith}
 use Rattle.std.proofs.lemmas.Bool.{cond_both, leb-true}
+use Rattle.model.specs.Demand.{need}
 use Rattle.model.specs.Machine.{released, row_after}
-use Rattle.model.specs.Reckoning.{need}
 use Rattle.model.specs.Table.{ceil}
 use Rattle.model.specs.declared.duties.Duty.{Duty}
 use Rattle.model.specs.declared.rows.Row.{Row}
@@ -46,7 +46,7 @@ pub need_run :
     → 1 ≤ c → need from duty (row_after duty clock (Ready c d e) Run) x + 1 ≤ need from duty (Ready c d e) x
 need_run from clock duty c d e x some =
     let jobs = duty.cost * ceil (x - e) duty.separation in
-    cond_both (leb c 1) (Idle e) (Ready (pred c) d e) (λ row. need from duty row x + 1 ≤ need from duty (Ready c d e) x)
+    cond_both (nat_le c 1) (Idle e) (Ready (pred c) d e) (λ row. need from duty row x + 1 ≤ need from duty (Ready c d e) x)
     (λ last. omega (arith, need_done from duty 0 d e x))
     (λ more. let fact : pred c + jobs + 1 ≤ c + jobs = omega arith in fact)
 
@@ -57,6 +57,6 @@ pub need_run_at_most :
 need_run_at_most from clock duty c d e x ahead =
     let same : max e from ≡ e = omega arith in
     let jobs = duty.cost * ceil (x - e) duty.separation in
-    cond_both (leb c 1) (Idle e) (Ready (pred c) d e) (λ row. need from duty (Ready c d e) x ≤ need from duty row x + 1)
+    cond_both (nat_le c 1) (Idle e) (Ready (pred c) d e) (λ row. need from duty (Ready c d e) x ≤ need from duty row x + 1)
     (λ last. let fact : c + jobs ≤ 0 + jobs + 1 = omega (arith, leb-true c 1 last) in rw same fact)
     (λ more. let fact : c + jobs ≤ pred c + jobs + 1 = omega arith in fact)

@@ -1,8 +1,8 @@
 -- The greatest and the lowest value of a function, and the slack of a table as the lowest of its rows'.
 use Rattle.std.proofs.Common.{◌≡◌, ℕ, zero, suc, ◌<◌, ◌≤◌, List, [], ◌∷◌, length, refl, ⊎_elim, arith}
 use Rattle.std.proofs.lemmas.Bool.{cases_lt, cases_order}
-use Rattle.model.specs.Reckoning.{row_slack, table_slack}
 use Rattle.model.specs.Searches.{greatest, lowest}
+use Rattle.model.specs.Slack.{row_slack, table_slack}
 use Rattle.model.specs.declared.duties.Duty.{Duty}
 use Rattle.model.specs.declared.rows.Row.{Row}
 

@@ -1,40 +1,33 @@
--- Lawful futures from kept rows never miss, so that a tick spared with slack left can hurt nobody.
-use Rattle.std.proofs.Common.{◌≡◌, ℕ, ◌+◌, ◌≤◌, true, List, [], ◌∷◌, ⊎_elim}
+-- Lawful futures from kept work never miss, so that a tick spared with slack left can hurt nobody.
+use Rattle.std.proofs.Common.{◌≤◌, [], ◌∷◌, ⊎_elim}
 use Rattle.std.proofs.lemmas.Bool.{both_ways, or_cases}
-use Rattle.model.specs.Futures.{release, finish, tick, overdue, misses, Safe}
-use Rattle.model.specs.Kept.{kept}
-use Rattle.model.specs.Machine.{rows_after, duty_tick}
-use Rattle.model.specs.Reckoning.{table_slack}
-use Rattle.model.specs.Table.{admitted}
-use Rattle.model.specs.declared.duties.Duty.{Duty}
-use Rattle.model.specs.declared.rows.Row.{Row}
+use Rattle.model.specs.Futures.{release, done, tick, overdue, misses, Safe}
+use Rattle.model.specs.Kept.{Keeps}
+use Rattle.model.specs.Machine.{Work, after_call, duty_tick, later, slack_of}
 use Rattle.model.specs.declared.rows.RowCall.TheVariants.{Release, Done}
-use Rattle.model.proofs.Accepting.{call_keeps}
+use Rattle.model.proofs.Kept.{kept_not_overdue}
+use Rattle.model.proofs.RowCalls.{call_keeps}
 use Rattle.model.proofs.Ticks.{duty_tick_keeps, spare_tick_keeps}
-use Rattle.model.proofs.Timely.{kept_not_overdue}
 
-module _ (table : List Duty) (ok : admitted table ≡ true) where
-  -- No lawful future from kept rows misses.
-  pub kept_safe : (clock : ℕ) (rows : List Row) → kept clock table rows ≡ true → Safe table clock rows
-  kept_safe clock rows keeps [] lawful missed = both_ways (overdue clock rows) (kept_not_overdue clock table rows keeps) missed
-  kept_safe clock rows keeps (release i ∷ moves) (accepted, lawful) missed =
-      ⊎_elim
-      (both_ways (overdue clock rows) (kept_not_overdue clock table rows keeps))
-      (kept_safe clock (rows_after table clock rows i Release) (call_keeps table ok clock rows i Release keeps accepted) moves lawful)
-      (or_cases (overdue clock rows) (misses table clock (rows_after table clock rows i Release) moves) missed)
-  kept_safe clock rows keeps (finish i ∷ moves) (accepted, lawful) missed =
-      ⊎_elim
-      (both_ways (overdue clock rows) (kept_not_overdue clock table rows keeps))
-      (kept_safe clock (rows_after table clock rows i Done) (call_keeps table ok clock rows i Done keeps accepted) moves lawful)
-      (or_cases (overdue clock rows) (misses table clock (rows_after table clock rows i Done) moves) missed)
-  kept_safe clock rows keeps (tick ∷ moves) lawful missed =
-      ⊎_elim
-      (both_ways (overdue clock rows) (kept_not_overdue clock table rows keeps))
-      (kept_safe (clock + 1) (duty_tick table clock rows) (duty_tick_keeps table ok clock rows keeps) moves lawful)
-      (or_cases (overdue clock rows) (misses table (clock + 1) (duty_tick table clock rows) moves) missed)
+-- No lawful future from kept work misses.
+pub kept_safe : (w : Work) → Keeps w → Safe w
+kept_safe w keeps [] lawful missed = both_ways (overdue w.clock w.rows) (kept_not_overdue w keeps) missed
+kept_safe w keeps (release i ∷ moves) (accepted, lawful) missed =
+    ⊎_elim
+    (both_ways (overdue w.clock w.rows) (kept_not_overdue w keeps))
+    (kept_safe (after_call w i Release) (call_keeps w i Release keeps accepted) moves lawful)
+    (or_cases (overdue w.clock w.rows) (misses (after_call w i Release) moves) missed)
+kept_safe w keeps (done i ∷ moves) (accepted, lawful) missed =
+    ⊎_elim
+    (both_ways (overdue w.clock w.rows) (kept_not_overdue w keeps))
+    (kept_safe (after_call w i Done) (call_keeps w i Done keeps accepted) moves lawful)
+    (or_cases (overdue w.clock w.rows) (misses (after_call w i Done) moves) missed)
+kept_safe w keeps (tick ∷ moves) lawful missed =
+    ⊎_elim
+    (both_ways (overdue w.clock w.rows) (kept_not_overdue w keeps))
+    (kept_safe (later (duty_tick w)) (duty_tick_keeps w keeps) moves lawful)
+    (or_cases (overdue w.clock w.rows) (misses (later (duty_tick w)) moves) missed)
 
-  -- Where the table's slack is at least 1, a tick may be spared.
-  pub slack_safe :
-      (clock : ℕ) (rows : List Row)
-      → kept clock table rows ≡ true → 1 ≤ table_slack (clock + 1) clock table rows → Safe table (clock + 1) rows
-  slack_safe clock rows keeps slack = kept_safe (clock + 1) rows (spare_tick_keeps table ok clock rows keeps slack)
+-- Where the table's slack is at least 1, a tick may be spared.
+pub slack_safe : (w : Work) → Keeps w → 1 ≤ slack_of w → Safe (later w)
+slack_safe w keeps slack = kept_safe (later w) (spare_tick_keeps w keeps slack)

@@ -1,9 +1,10 @@
--- Ticks that go by a choice, call by call.
-use Rattle.std.proofs.Common.{◌≡◌, ℕ, Bool, true, false, List, [], ◌∷◌, ◌++◌, Some, Ok, Err, sym, refl, ap, ◌∙◌, subst, append_assoc, append-nil}
+-- Histories, call by call: an errand that has a tick is the one that the queue named, so that ticks go by its choice.
+use Rattle.std.proofs.Common.{◌≡◌, ℕ, Bool, true, false, [], ◌∷◌, ◌++◌, Some, None, Ok, Err, Option, sym, refl, ap, ◌∙◌, subst, append_assoc, append-nil, ⊎_elim}
 use Rattle.std.proofs.lemmas.Bool.{both_ways}
-use Rattle.model.specs.Histories.{Chosen, GoesOn, History, Choice, by_call, history}
-use Rattle.model.specs.Machine.{State, Step, Turn, errand_due}
+use Rattle.model.specs.Histories.{Chosen, GoesOn, History, Choice, by_call, by_turn, history}
+use Rattle.model.specs.Machine.{Work, State, Step, ServedOrLeft, SparedOrRun, duty_turn, errand_due, waits}
 use Rattle.model.specs.Promise.{is_errand}
+use Rattle.model.specs.Queues.{Meaning}
 use Rattle.model.specs.Runs.{Trace}
 use Rattle.model.specs.declared.calls.Answer.{Answer}
 use Rattle.model.specs.declared.calls.Answer.TheVariants.{Ticked}
@@ -11,34 +12,47 @@ use Rattle.model.specs.declared.calls.Call.{Call}
 use Rattle.model.specs.declared.calls.Call.TheVariants.{Tick}
 use Rattle.model.specs.declared.calls.Who.{Who}
 use Rattle.model.specs.declared.calls.Who.TheVariants.{Errand as ForErrand}
-use Rattle.model.specs.declared.duties.Duty.{Duty}
-use Rattle.model.proofs.Sparing.{no_errand}
+use Rattle.model.proofs.SpareTicks.{no_errand}
+use Rattle.model.proofs.Ticks.{turn_cases}
 
 -- The errand that has a tick is the one that the queue named.
 turn_named :
-    (due : Bool) (table : List Duty) (s : State) (n : ℕ) (s' : State)
-    → Turn due table s (ForErrand n) s' → s.queue.named ≡ Some n
-turn_named true table s n s' (k, had, spent, rows_stay) =
+    (due : Bool) (w : Work) (turn : Option Who) (m m' : Meaning) (n : ℕ) (w' : Work)
+    → SparedOrRun due w turn w' → ServedOrLeft turn m (ForErrand n) m' → m.named ≡ Some n
+turn_named due w None m m' n w' used (k, had, spent) =
     let same : n ≡ k = cc in spent.0 ∙ ap Some (sym same)
-turn_named false table s n s' (had, rows_are, queue-stays) =
-    absurd (both_ways (is_errand (ForErrand n)) (ap is_errand had ∙ no_errand s.rows) refl)
+turn_named true w (Some who) m m' n w' (spared, then) left = cc
+turn_named false w (Some who) m m' n w' (worked, then) (had, queue-stays) =
+    let same : who ≡ duty_turn w = cc in
+    absurd (both_ways (is_errand (ForErrand n)) (ap is_errand (had ∙ same) ∙ no_errand w) refl)
 
 tick_named :
-    (table : List Duty) (s : State) (slack n : ℕ) (s' : State)
-    → Step table s Tick (Ticked slack (ForErrand n)) s' → s.queue.named ≡ Some n
-tick_named table s slack n s' (Ok told, answered, (room, slack-is, clock-rises, turn)) =
-    let same : told.1 ≡ ForErrand n = cc in
-    turn_named (errand_due table s) table s n s'
-    (subst (λ (who : Who). Turn (errand_due table s) table s who s') same turn)
-tick_named table s slack n s' (Err why, answered, refused) =
+    (s : State) (slack n : ℕ) (s' : State) → Step s Tick (Ticked slack (ForErrand n)) s' → s.queue.named ≡ Some n
+tick_named s slack n s' (Ok pair, answered, (turn, (room, slack-is, used), served)) =
+    let same : pair.1 ≡ ForErrand n = cc in
+    turn_named (errand_due s.work (waits s.queue)) s.work turn s.queue s'.queue n s'.work used
+    (subst (λ (who : Who). ServedOrLeft turn s.queue who s'.queue) same served)
+tick_named s slack n s' (Err why, answered, refused) =
     cc
 
 pub step_named :
-    (table : List Duty) (s : State) (call : Call) (answer : Answer) (s' : State) → Step table s call answer s'
+    (s : State) (call : Call) (answer : Answer) (s' : State) → Step s call answer s'
     → (slack n : ℕ) → call ≡ Tick → answer ≡ Ticked slack (ForErrand n) → s.queue.named ≡ Some n
-step_named table s call answer s' one slack n tick ticked =
-    tick_named table s slack n s'
-    (subst (λ (a : Answer). Step table s Tick a s') ticked (subst (λ (c : Call). Step table s c answer s') tick one))
+step_named s call answer s' one slack n tick ticked =
+    tick_named s slack n s'
+    (subst (λ (a : Answer). Step s Tick a s') ticked (subst (λ (c : Call). Step s c answer s') tick one))
+
+-- A tick that is not to spare adds nothing to a queue's history: it names no errand.
+pub run_adds_nothing :
+    (due : Bool) (w : Work) (who : Who) (w' : Work) → SparedOrRun due w (Some who) w' → by_turn who ≡ []
+run_adds_nothing true w who w' (spared, then) = cc
+run_adds_nothing false w who w' (worked, then) =
+    let same : who ≡ duty_turn w = cc in
+    rw same
+    (⊎_elim
+    (λ (none, idle). rw (none, duty_turn) refl)
+    (λ (k, found, first). rw (found, duty_turn) refl)
+    (turn_cases w.rows))
 
 -- A queue that stays as it was goes on with nothing added.
 pub stays_on : {Q : Type 0} (arises : History → Q → Type 0) (q q' : Q) → q' ≡ q → GoesOn arises q [] q'

@@ -1,7 +1,8 @@
 -- The worked-out run, step by step, and the future that misses.
-use Rattle.std.proofs.Common.{◌≡◌, ℕ, suc, true, eqb, [], ◌∷◌, Some, None, Ok, Err, sym, refl, ◌∙◌, arith}
+use Rattle.std.proofs.Common.{◌≡◌, ℕ, suc, true, ◌==◌, [], ◌∷◌, Some, None, Ok, Err, sym, refl, ap, ◌∙◌, arith}
 use Rattle.std.proofs.lemmas.Bool.{ne_eqb, cond-false}
-use Rattle.model.specs.Machine.{State, Step, fresh}
+use Rattle.model.specs.Demand.{left_of, row_at}
+use Rattle.model.specs.Machine.{Work, State, Step, fresh}
 use Rattle.model.specs.MachineExamples.{MachineExamples, errand_7, empty_queue, holding, worked_out, worked_out_end, without_slack, clock_alone}
 use Rattle.model.specs.Queues.{Meaning, Sound, Changes, look, distinct, one_less}
 use Rattle.model.specs.Runs.{Run, stay, step}
@@ -22,7 +23,7 @@ holding_sound : (units : ℕ) → distinct (holding units).waiting ≡ true → 
 holding_sound units within = record { each_once = within; few = omega arith; names = refl }
 
 no_other : (units k : ℕ) → (k ≡ 7 → ⊥) → look (holding units).waiting k ≡ None
-no_other units k other = cond-false (eqb 7 k) (Some (errand_7 units)) None (ne_eqb 7 k (λ e. other (omega arith)))
+no_other units k other = cond-false (7 == k) (Some (errand_7 units)) None (ne_eqb 7 k (λ e. other (omega arith)))
 
 put_7 : Changes empty_queue 7 (Some (errand_7 3)) (holding 3)
 put_7 = record { here = refl; others = no_other 3; places_stay = refl; sound = holding_sound 3 refl }
@@ -45,41 +46,38 @@ take_7 = record { here = refl; others = λ k other. sym (no_other 1 k other); pl
 
 -- The states on the way.
 abbrev at : ℕ → Row → Row → Row → Meaning → State
-at clock row-0 row-1 row-2 queue = record { clock = clock; rows = row-0 ∷ row-1 ∷ row-2 ∷ []; queue = queue }
+at clock row-0 row-1 row-2 queue =
+    record { work = record { table = three; clock = clock; rows = row-0 ∷ row-1 ∷ row-2 ∷ [] }; queue = queue }
 
-run_worked_out : Run three (fresh three empty_queue) worked_out worked_out_end
+run_worked_out : Run (fresh three empty_queue) worked_out worked_out_end
 unfolding ceil
 run_worked_out =
-    step {s' = at 0 (Ready 1 4 4) (Idle 0) (Idle 0) empty_queue} (Ok tt, refl, (refl, refl, refl, refl))
-    (step {s' = at 0 (Ready 1 4 4) (Ready 2 6 6) (Idle 0) empty_queue} (Ok tt, refl, (refl, refl, refl, refl))
-    (step {s' = at 0 (Ready 1 4 4) (Ready 2 6 6) (Ready 3 12 12) empty_queue} (Ok tt, refl, (refl, refl, refl, refl))
-    (step (Err NoSuchRow, refl, (refl, refl))
-    (step {s' = at 0 (Ready 1 4 4) (Ready 2 6 6) (Ready 3 12 12) (holding 3)} (Ok tt, refl, ((refl, put_7), (refl, refl)))
+    step {s' = at 0 (Ready 1 4 4) (Idle 0) (Idle 0) empty_queue} (Ok tt, refl, (refl, refl), refl)
+    (step {s' = at 0 (Ready 1 4 4) (Ready 2 6 6) (Idle 0) empty_queue} (Ok tt, refl, (refl, refl), refl)
+    (step {s' = at 0 (Ready 1 4 4) (Ready 2 6 6) (Ready 3 12 12) empty_queue} (Ok tt, refl, (refl, refl), refl)
+    (step (Err NoSuchRow, refl, (refl, refl), refl)
+    (step {s' = at 0 (Ready 1 4 4) (Ready 2 6 6) (Ready 3 12 12) (holding 3)} (Ok tt, refl, ((refl, put_7), refl))
     (step (refl, refl)
     (step {s' = at 1 (Ready 1 4 4) (Ready 2 6 6) (Ready 3 12 12) (holding 2)}
-    (Ok (2, ForErrand 7), refl, (omega arith, refl, refl, (7, refl, (refl, (errand_7 3, refl, spend_7 2 refl refl)), refl)))
+    (Ok (2, ForErrand 7), refl, (None, (omega arith, refl, (refl, refl)), (7, refl, (refl, (errand_7 3, refl, spend_7 2 refl refl)))))
     (step {s' = at 2 (Ready 1 4 4) (Ready 2 6 6) (Ready 3 12 12) (holding 1)}
-    (Ok (1, ForErrand 7), refl, (omega arith, refl, refl, (7, refl, (refl, (errand_7 2, refl, spend_7 1 refl refl)), refl)))
-    (step {s' = at 3 (Idle 4) (Ready 2 6 6) (Ready 3 12 12) (holding 1)}
-    (Ok (0, ForDuty 0), refl, (omega arith, refl, refl, (refl, refl, refl)))
-    (step (Err TooSoon, refl, (refl, refl))
-    (step (Err RowIdle, refl, (refl, refl))
-    (step {s' = at 4 (Idle 4) (Ready 1 6 6) (Ready 3 12 12) (holding 1)}
-    (Ok (0, ForDuty 1), refl, (omega arith, refl, refl, (refl, refl, refl)))
-    (step {s' = at 4 (Ready 1 8 8) (Ready 1 6 6) (Ready 3 12 12) (holding 1)} (Ok tt, refl, (refl, refl, refl, refl))
-    (step {s' = at 5 (Idle 8) (Ready 1 6 6) (Ready 3 12 12) (holding 1)}
-    (Ok (0, ForDuty 0), refl, (omega arith, refl, refl, (refl, refl, refl)))
-    (step {s' = at 5 (Idle 8) (Ready 1 6 6) (Ready 3 12 12) empty_queue}
-    (Ok 1, refl, ((errand_7 1, refl, refl, take_7), (refl, refl)))
-    (step (Err NotWaiting, refl, ((refl, refl, refl), (refl, refl)))
-    (step (Ok tt, refl, (refl, refl, refl, refl)) stay))))))))))))))))
+    (Ok (1, ForErrand 7), refl, (None, (omega arith, refl, (refl, refl)), (7, refl, (refl, (errand_7 2, refl, spend_7 1 refl refl)))))
+    (step {s' = at 3 (Idle 4) (Ready 2 6 6) (Ready 3 12 12) (holding 1)} (Ok (0, ForDuty 0), refl, (Some (ForDuty 0), (omega arith, refl, (refl, refl)), (refl, refl)))
+    (step (Err TooSoon, refl, (refl, refl), refl)
+    (step (Err RowIdle, refl, (refl, refl), refl)
+    (step {s' = at 4 (Idle 4) (Ready 1 6 6) (Ready 3 12 12) (holding 1)} (Ok (0, ForDuty 1), refl, (Some (ForDuty 1), (omega arith, refl, (refl, refl)), (refl, refl)))
+    (step {s' = at 4 (Ready 1 8 8) (Ready 1 6 6) (Ready 3 12 12) (holding 1)} (Ok tt, refl, (refl, refl), refl)
+    (step {s' = at 5 (Idle 8) (Ready 1 6 6) (Ready 3 12 12) (holding 1)} (Ok (0, ForDuty 0), refl, (Some (ForDuty 0), (omega arith, refl, (refl, refl)), (refl, refl)))
+    (step {s' = at 5 (Idle 8) (Ready 1 6 6) (Ready 3 12 12) empty_queue} (Ok 1, refl, ((errand_7 1, refl, refl, take_7), refl))
+    (step (Err NotWaiting, refl, ((refl, refl, refl), refl))
+    (step (Ok tt, refl, (refl, refl), refl) stay))))))))))))))))
 
 -- Whatever a tick answers there, it changes more than the clock: row 0 has it.
-no_idle_tick : (answer : Answer) → Step three without_slack Tick answer (clock_alone without_slack) → ⊥
+no_idle_tick : (answer : Answer) → Step without_slack Tick answer (clock_alone without_slack) → ⊥
 unfolding ceil
-no_idle_tick answer (Ok told, answered, (room, slack-is, clock-rises, (had, rows_are, queue-stays))) =
-    let z : ◌≡◌ {A = ℕ} 0 1 = cc in omega arith
-no_idle_tick answer (Err why, answered, (ended, refused, same)) = omega arith
+no_idle_tick answer (Ok pair, answered, (turn, (room, slack-is, (had, then)), served)) =
+    let z : ◌≡◌ {A = ℕ} 1 0 = ap (λ (w : Work). left_of (row_at w.rows 0)) then in omega arith
+no_idle_tick answer (Err why, answered, ((ended, refused, same), queue-stays)) = omega arith
 
 pub machine_examples : MachineExamples
 unfolding ceil

@@ -1,6 +1,7 @@
--- What a search for the least number finds, and that it finds what is there.
-use Rattle.std.proofs.Common.{◌≡◌, ℕ, zero, suc, ◌+◌, ◌<◌, ◌≤◌, Bool, true, false, Some, None, sym, refl, ap, ◌∙◌, ⊎_elim, arith}
-use Rattle.std.proofs.lemmas.Bool.{cases_Bool, cases_order}
+-- What a search for the least number finds, and that it finds what is there; and the same where the search stands in
+-- a test of whether it finds anything.
+use Rattle.std.proofs.Common.{◌≡◌, ℕ, zero, suc, ◌+◌, ◌<◌, ◌≤◌, Bool, true, false, is_some, Some, None, Option, sym, refl, ap, ◌∙◌, ⊎_elim, arith}
+use Rattle.std.proofs.lemmas.Bool.{cases_Bool, cases_order, both_ways}
 use Rattle.model.specs.Searches.{least}
 
 -- w is the least of the n numbers from `low` on that passes.
@@ -60,3 +61,29 @@ module _ (passes : ℕ → Bool) where
       (λ t. absurd (let z : ◌≡◌ {A = ℕ} 0 1 = cc (e, least_here low n t) in omega arith))
       (λ f. ⊎_elim (λ same. rw (← same) f) (⊎_elim (λ lt. none_passes (suc low) n (sym (least_next low n f) ∙ e) v lt (omega arith)) (λ gt. absurd (omega arith))) (cases_order low v))
       (cases_Bool (passes low))
+
+-- An option as a test.
+pub some_is : {X : Type 0} (o : Option X) → is_some o ≡ true → (x : X) × (o ≡ Some x)
+some_is None h = absurd (both_ways false refl h)
+some_is (Some x) h = (x, refl)
+
+pub none_is : {X : Type 0} (o : Option X) → is_some o ≡ false → o ≡ None
+none_is None h = refl
+none_is (Some x) h = absurd (both_ways true h refl)
+
+module _ (passes : ℕ → Bool) (low n : ℕ) where
+  -- A search that finds something finds the least that passes.
+  pub search_finds : is_some (least passes low n) ≡ true → (w : ℕ) × IsLeast passes low n w
+  search_finds h = let (w, found) = some_is (least passes low n) h in (w, least_found passes low n w found)
+
+  -- A search that finds nothing passes over every number.
+  pub search_fails : is_some (least passes low n) ≡ false → (v : ℕ) → low ≤ v → v < low + n → passes v ≡ false
+  search_fails h = none_passes passes low n (none_is (least passes low n) h)
+
+  -- Where some number passes, the search finds one.
+  pub search_succeeds : (v : ℕ) → low ≤ v → v < low + n → passes v ≡ true → is_some (least passes low n) ≡ true
+  search_succeeds v above below passed =
+      ⊎_elim
+      (λ found. found)
+      (λ fails. absurd (both_ways (passes v) (search_fails fails v above below) passed))
+      (cases_Bool (is_some (least passes low n)))

@@ -3,17 +3,18 @@ use Rattle.std.proofs.Common.{◌≡◌, ℕ, zero, suc, ◌+◌, ◌-◌, ◌<�
 use Rattle.std.proofs.lemmas.Bool.{cases_lt, cond-false, cond-true, le-leb, lt-leb}
 use Rattle.model.proofs.Demand.{jobs_le}
 use Rattle.model.proofs.Extremes.{greatest_above, greatest_taken}
+use Rattle.model.specs.Demand.{demand, need, next_release}
 use Rattle.model.specs.Idle.{SlackIsGreatest, SlackIsIdleTicks, idle_ticks, within}
-use Rattle.model.specs.Reckoning.{demand, need, next_release, spare, window}
 use Rattle.model.specs.Searches.{greatest}
+use Rattle.model.specs.Slack.{spare, window}
 use Rattle.model.specs.declared.duties.Duty.{Duty}
 use Rattle.model.specs.declared.rows.Row.{Row}
 
 -- A demand that does not fall.
-abbrev pub Rising : (ℕ → ℕ) → Type 0
-Rising f = (v w : ℕ) → v ≤ w → f v ≤ f w
+abbrev pub Monotone : (ℕ → ℕ) → Type 0
+Monotone f = (v w : ℕ) → v ≤ w → f v ≤ f w
 
-module _ (f : ℕ → ℕ) (rising : Rising f) where
+module _ (f : ℕ → ℕ) (monotone : Monotone f) where
   -- Tick w is idle, or it is not.
   pub idle_more : (w : ℕ) → f (suc w) + idle_ticks f w ≤ w → idle_ticks f (suc w) ≡ idle_ticks f w + 1
   idle_more w le = ap (λ n. idle_ticks f w + n) (cond-true _ _ _ (le-leb _ _ le))
@@ -27,26 +28,26 @@ module _ (f : ℕ → ℕ) (rising : Rising f) where
   idle_is_greatest (suc w) =
       let so_far = idle_is_greatest w in
       let last = greatest_above (λ v. v - f v) w w (omega arith) in
-      let step = rising w (suc w) (omega arith) in
+      let step = monotone w (suc w) (omega arith) in
       ⊎_elim
       (λ lt. omega (arith, idle_same w lt))
       (λ le. omega (arith, idle_more w le))
       (cases_lt w (f (suc w) + idle_ticks f w))
 
-need_rising : (from : ℕ) (duty : Duty) (row : Row) (v w : ℕ) → v ≤ w → need from duty row v ≤ need from duty row w
-need_rising from duty row v w le =
+need_monotone : (from : ℕ) (duty : Duty) (row : Row) (v w : ℕ) → v ≤ w → need from duty row v ≤ need from duty row w
+need_monotone from duty row v w le =
     omega (arith, jobs_le duty (v - next_release from row) (w - next_release from row) (omega arith))
 
-pub demand_rising : (from : ℕ) (table : List Duty) (rows : List Row) (v w : ℕ) → v ≤ w → demand from table rows v ≤ demand from table rows w
-demand_rising from [] rows v w le = omega arith
-demand_rising from (duty ∷ table) [] v w le = omega arith
-demand_rising from (duty ∷ table) (row ∷ rows) v w le =
-    omega (arith, need_rising from duty row v w le, demand_rising from table rows v w le)
+pub demand_monotone : (from : ℕ) (table : List Duty) (rows : List Row) (v w : ℕ) → v ≤ w → demand from table rows v ≤ demand from table rows w
+demand_monotone from [] rows v w le = omega arith
+demand_monotone from (duty ∷ table) [] v w le = omega arith
+demand_monotone from (duty ∷ table) (row ∷ rows) v w le =
+    omega (arith, need_monotone from duty row v w le, demand_monotone from table rows v w le)
 
 pub slack_is_idle_ticks : SlackIsIdleTicks
 slack_is_idle_ticks from clock table rows i =
     idle_is_greatest (within from clock table rows i)
-    (λ v w le. demand_rising from (take (suc i) table) rows (clock + v) (clock + w) (omega arith))
+    (λ v w le. demand_monotone from (take (suc i) table) rows (clock + v) (clock + w) (omega arith))
     (window from clock table rows i)
 
 pub slack_is_greatest : SlackIsGreatest

@@ -1,7 +1,7 @@
 -- Sums of what a function says of the first numbers. Demand and busy time are such sums over the rows of a table, so a
 -- fact about each row gives one about the demand of a row.
 use Rattle.std.proofs.Common.{◌≡◌, ℕ, zero, suc, ◌+◌, ◌*◌, ◌<◌, ◌≤◌, List, [], ◌∷◌, length, take, refl, ◌∙◌, arith}
-use Rattle.model.specs.Reckoning.{need, demand, demand_at, row_at}
+use Rattle.model.specs.Demand.{need, demand, demand_at, row_at}
 use Rattle.model.specs.Table.{ceil, busy, duty_at}
 use Rattle.model.specs.declared.duties.Duty.{Duty}
 use Rattle.model.specs.declared.rows.Row.{Row}

@@ -2,11 +2,11 @@
 use Rattle.std.specs.Prelude.{◌≡◌, ℕ, cond, List, [], ◌∷◌, ◌++◌, Some, None, Ok, Err, Option, Result}
 use Rattle.model.specs.Runs.{Trace, was_accepted}
 use Rattle.model.specs.declared.calls.Answer.{Answer}
-use Rattle.model.specs.declared.calls.Answer.TheVariants.{Accepted, Withdrawn, Slack as SlackIs, Ticked, Refused}
+use Rattle.model.specs.declared.calls.Answer.TheVariants.{Withdrawn, Ticked}
 use Rattle.model.specs.declared.calls.Call.{Call}
-use Rattle.model.specs.declared.calls.Call.TheVariants.{Release, Done, Request, Withdraw, Slack, Tick}
+use Rattle.model.specs.declared.calls.Call.TheVariants.{Request, Withdraw, Tick}
 use Rattle.model.specs.declared.calls.Who.{Who}
-use Rattle.model.specs.declared.calls.Who.TheVariants.{Nobody, Duty as ForDuty, Errand as ForErrand}
+use Rattle.model.specs.declared.calls.Who.TheVariants.{Errand as ForErrand}
 use Rattle.model.specs.declared.errands.Errand.{Errand}
 use Rattle.model.specs.declared.refusals.Refusal.{Refusal}
 
@@ -24,7 +24,7 @@ History = List Event
 abbrev pub Choice : Type 0
 Choice = History → Option ℕ
 
--- The history goes on from q to q': by whatever past q can have come about, q' can by the same and what was added.
+-- From q to q' the history grew by what was added: whatever history q can have, q' can have the same with this behind it.
 abbrev pub GoesOn : {Q : Type 0} → (History → Q → Type 0) → Q → History → Q → Type 0
 GoesOn arises q added q' = (past : History) → arises past q → arises (past ++ added) q'
 
@@ -43,35 +43,26 @@ by_take n (Err why) = []
 
 -- What a tick adds, by who had it: a unit was spent on an errand that had it.
 abbrev pub by_turn : Who → History
-by_turn Nobody = []
-by_turn (ForDuty i) = []
 by_turn (ForErrand n) = was_spent n ∷ []
+by_turn who = []
 
 -- What a tick adds, by its answer.
 abbrev pub by_tick : Answer → History
-by_tick Accepted = []
-by_tick (Withdrawn units) = []
-by_tick (SlackIs k) = []
 by_tick (Ticked k who) = by_turn who
-by_tick (Refused why) = []
+by_tick answer = []
 
 -- What a withdraw of n adds: n was taken out if units were answered.
 abbrev pub by_withdraw : ℕ → Answer → History
-by_withdraw n Accepted = []
 by_withdraw n (Withdrawn units) = was_taken n ∷ []
-by_withdraw n (SlackIs k) = []
-by_withdraw n (Ticked k who) = []
-by_withdraw n (Refused why) = []
+by_withdraw n answer = []
 
 -- What a call with its answer adds: an accepted request puts its errand, an accepted withdraw takes its number
 -- out, a tick that an errand had spends a unit on it, and nothing else touches the queue.
 abbrev pub by_call : Call → Answer → History
-by_call (Release i) a = []
-by_call (Done i) a = []
-by_call (Request e) a = cond (was_accepted a) (was_put e ∷ []) []
-by_call (Withdraw n) a = by_withdraw n a
-by_call Slack a = []
-by_call Tick a = by_tick a
+by_call (Request e) answer = cond (was_accepted answer) (was_put e ∷ []) []
+by_call (Withdraw n) answer = by_withdraw n answer
+by_call Tick answer = by_tick answer
+by_call call answer = []
 
 -- What happens to the queue in a run.
 abbrev pub history : Trace → History

@@ -1,6 +1,7 @@
 -- Idle ticks: how many ticks of a window no row up to i needs, if each is worked off as soon as it can be.
 use Rattle.std.specs.Prelude.{◌≡◌, ℕ, zero, suc, ◌+◌, ◌≤◌, cond, List, nat_le}
-use Rattle.model.specs.Reckoning.{demand_at, row_slack, window}
+use Rattle.model.specs.Demand.{demand_at}
+use Rattle.model.specs.Slack.{row_slack, window}
 use Rattle.model.specs.declared.duties.Duty.{Duty}
 use Rattle.model.specs.declared.rows.Row.{Row}
 

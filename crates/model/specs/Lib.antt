@@ -1,4 +1,5 @@
 pub mod Always
+pub mod Demand
 pub mod Futures
 pub mod Histories
 pub mod Idle
@@ -7,13 +8,13 @@ pub mod Machine
 pub mod MachineExamples
 pub mod Promise
 pub mod Queues
-pub mod Reckoning
 pub mod Refusals
 pub mod Responses
 pub mod Runs
 pub mod Searches
-pub mod Table
 pub mod Settled
+pub mod Slack
+pub mod Table
 pub mod Totals
 pub mod Words
 pub mod Worked

@@ -1,9 +1,9 @@
 -- A run of the machine worked out in full, and a state of it that has no tick to spare. They show that what is said
 -- of runs, slack and futures is said of something: an errand is served while there is slack and a duty once there is
 -- none, calls are refused, and a tick spared without slack leads to a missed deadline.
-use Rattle.std.specs.Prelude.{◌≡◌, ℕ, ◌+◌, true, List, [], ◌∷◌, Some, None}
+use Rattle.std.specs.Prelude.{◌≡◌, ℕ, true, List, [], ◌∷◌, Some, None}
 use Rattle.model.specs.Futures.{Move, release, tick, Lawful, misses}
-use Rattle.model.specs.Machine.{State, Step, fresh, slack_of}
+use Rattle.model.specs.Machine.{State, Step, fresh, later, slack_of}
 use Rattle.model.specs.Queues.{Meaning}
 use Rattle.model.specs.Runs.{Run, Trace}
 use Rattle.model.specs.Table.{admitted}
@@ -53,11 +53,15 @@ worked_out =
 
 -- The machine at its end,
 abbrev pub worked_out_end : State
-worked_out_end = record { clock = 5; rows = Idle 8 ∷ Idle 6 ∷ Ready 3 12 12 ∷ []; queue = empty_queue }
+worked_out_end =
+    record {
+      work = record { table = three; clock = 5; rows = Idle 8 ∷ Idle 6 ∷ Ready 3 12 12 ∷ [] };
+      queue = empty_queue;
+    }
 
 -- and before its third tick: an errand waits, and there is no slack.
 abbrev pub without_slack : State
-without_slack = record { clock = 2; rows = all_released; queue = holding 1 }
+without_slack = record { work = record { table = three; clock = 2; rows = all_released }; queue = holding 1 }
 
 -- Had the errand that tick too, row 1 could miss its deadline at 6: row 0 has the tick at 3, is released again at 4
 -- and has that tick, and one tick alone is left to row 1.
@@ -66,12 +70,12 @@ missing = tick ∷ release 0 ∷ tick ∷ tick ∷ []
 
 -- The same state with nothing but the clock raised.
 abbrev pub clock_alone : State → State
-clock_alone s = record { clock = s.clock + 1; rows = s.rows; queue = s.queue }
+clock_alone s = record s { work = later s.work }
 
 pub record MachineExamples : Type 0 where
   pub table_admitted : admitted three ≡ true
-  pub run_worked_out : Run three (fresh three empty_queue) worked_out worked_out_end
-  pub no_slack : slack_of three without_slack ≡ 0
-  pub missing_lawful : Lawful three 3 without_slack.rows missing
-  pub missing_misses : misses three 3 without_slack.rows missing ≡ true
-  pub no_idle_tick : (answer : Answer) → Step three without_slack Tick answer (clock_alone without_slack) → ⊥
+  pub run_worked_out : Run (fresh three empty_queue) worked_out worked_out_end
+  pub no_slack : slack_of without_slack.work ≡ 0
+  pub missing_lawful : Lawful (later without_slack.work) missing
+  pub missing_misses : misses (later without_slack.work) missing ≡ true
+  pub no_idle_tick : (answer : Answer) → Step without_slack Tick answer (clock_alone without_slack) → ⊥

@@ -1,7 +1,7 @@
 -- What a queue means: which errands wait, which one it names, and how many places it has. Meanings are
 -- compared by looking numbers up, so the order in which the errands are listed says nothing.
 use Rattle.std.specs.Prelude.{◌≡◌, ℕ, pred, ◌≤◌, Bool, true, false, cond, not, ◌&&◌, List, [], ◌∷◌, length, is_some, Some, None, Ok, Err, Option, Result, ◌==◌, ◌≢◌, nat_le}
-use Rattle.model.specs.Refusals.{told}
+use Rattle.model.specs.Refusals.{refusal_code}
 use Rattle.model.specs.declared.errands.Errand.{Errand}
 use Rattle.model.specs.declared.refusals.Refusal.{Refusal}
 
@@ -33,9 +33,8 @@ distinct (e ∷ es) = errand_within e && not (is_some (look es e.number)) && dis
 -- A queue names some errand exactly when one waits, and then one that waits.
 abbrev pub names_right : List Errand → Option ℕ → Bool
 names_right [] None = true
-names_right [] (Some n) = false
-names_right (e ∷ es) None = false
 names_right (e ∷ es) (Some n) = is_some (look (e ∷ es) n)
+names_right es named = false
 
 -- The meanings that a queue can have.
 pub record Sound (m : Meaning) : Type 0 where
@@ -67,7 +66,7 @@ put_refusal m e =
 -- Put: refused as above with nothing changed, or the errand waits as given and every other as before.
 abbrev pub Put : {X : Type 0} → Meaning → Errand → Result X Refusal → Meaning → Type 0
 Put m e (Ok x) m' = (put_refusal m e ≡ []) × Changes m e.number (Some e) m'
-Put m e (Err why) m' = (put_refusal m e ≡ told why) × (m' ≡ m)
+Put m e (Err why) m' = (put_refusal m e ≡ refusal_code why) × (m' ≡ m)
 
 -- Spend: none where nothing is named, with nothing changed; else the number named, which has one unit less.
 abbrev pub Spend : Meaning → Option ℕ → Meaning → Type 0
@@ -79,4 +78,4 @@ Spend m (Some n) m' =
 -- no more.
 abbrev pub Take : Meaning → ℕ → Result ℕ Refusal → Meaning → Type 0
 Take m n (Ok units) m' = ((e : Errand) × (look m.waiting n ≡ Some e) × (units ≡ e.units) × Changes m n None m')
-Take m n (Err why) m' = (look m.waiting n ≡ None) × (told why ≡ 11 ∷ []) × (m' ≡ m)
+Take m n (Err why) m' = (look m.waiting n ≡ None) × (refusal_code why ≡ 11 ∷ []) × (m' ≡ m)

@@ -1,23 +1,23 @@
--- The number of each refusal, and the values that go with it.
+-- Refusals as lists of numbers, which definitions and contracts compare: the empty list where nothing is refused.
 use Rattle.std.specs.Prelude.{ℕ, List, [], ◌∷◌, Ok, Err, Result}
 use Rattle.model.specs.declared.refusals.Refusal.{Refusal}
 use Rattle.model.specs.declared.refusals.Refusal.TheVariants.{NoSuchRow, DutyLimits, TableFull, Unschedulable, TooSoon, RowIdle, ClockEnded, ErrandLimits, AlreadyWaiting, NoPlace, NotWaiting}
 
--- What a refusal tells: its number, and behind the number of an unschedulable table the row.
-abbrev pub told : Refusal → List ℕ
-told NoSuchRow = 1 ∷ []
-told DutyLimits = 2 ∷ []
-told TableFull = 3 ∷ []
-told (Unschedulable row) = 4 ∷ row ∷ []
-told TooSoon = 5 ∷ []
-told RowIdle = 6 ∷ []
-told ClockEnded = 7 ∷ []
-told ErrandLimits = 8 ∷ []
-told AlreadyWaiting = 9 ∷ []
-told NoPlace = 10 ∷ []
-told NotWaiting = 11 ∷ []
+-- The code of a refusal: its number, and behind the number of an unschedulable table the row.
+abbrev pub refusal_code : Refusal → List ℕ
+refusal_code NoSuchRow = 1 ∷ []
+refusal_code DutyLimits = 2 ∷ []
+refusal_code TableFull = 3 ∷ []
+refusal_code (Unschedulable row) = 4 ∷ row ∷ []
+refusal_code TooSoon = 5 ∷ []
+refusal_code RowIdle = 6 ∷ []
+refusal_code ClockEnded = 7 ∷ []
+refusal_code ErrandLimits = 8 ∷ []
+refusal_code AlreadyWaiting = 9 ∷ []
+refusal_code NoPlace = 10 ∷ []
+refusal_code NotWaiting = 11 ∷ []
 
--- What a call tells of its refusal: nothing where it was accepted.
+-- What refused a call: nothing where it was accepted.
 abbrev pub refusal : {X : Type 0} → Result X Refusal → List ℕ
 refusal (Ok x) = []
-refusal (Err e) = told e
+refusal (Err e) = refusal_code e

@@ -2,26 +2,25 @@
 use Rattle.std.specs.Prelude.{ℕ, ◌+◌, Bool, true, false, cond, ◌&&◌, List, [], ◌∷◌, map, ◌==◌}
 use Rattle.model.specs.Machine.{State, Step}
 use Rattle.model.specs.declared.calls.Answer.{Answer}
-use Rattle.model.specs.declared.calls.Answer.TheVariants.{Accepted, Withdrawn, Slack as SlackIs, Ticked, Refused}
+use Rattle.model.specs.declared.calls.Answer.TheVariants.{Accepted, Withdrawn, Ticked}
 use Rattle.model.specs.declared.calls.Call.{Call}
-use Rattle.model.specs.declared.calls.Call.TheVariants.{Release, Done, Request, Withdraw, Slack, Tick}
+use Rattle.model.specs.declared.calls.Call.TheVariants.{Release, Done, Request, Withdraw}
 use Rattle.model.specs.declared.calls.Who.{Who}
-use Rattle.model.specs.declared.calls.Who.TheVariants.{Nobody, Duty as ForDuty, Errand as ForErrand}
-use Rattle.model.specs.declared.duties.Duty.{Duty}
+use Rattle.model.specs.declared.calls.Who.TheVariants.{Duty as ForDuty, Errand as ForErrand}
 
 -- Calls with their answers, the oldest first.
 abbrev pub Trace : Type 0
 Trace = List (Call × Answer)
 
 -- The calls alone.
-abbrev pub called : Trace → List Call
-called = map (λ (x : Call × Answer). x.0)
+abbrev pub calls_in : Trace → List Call
+calls_in = map (λ (x : Call × Answer). x.0)
 
 -- The machine goes from one state to another by these calls with these answers.
-pub data Run (table : List Duty) : State → Trace → State → Type 0 where
-  stay : {s : State} → Run table s [] s
+pub data Run : State → Trace → State → Type 0 where
+  stay : {s : State} → Run s [] s
   step : {s s' end : State} {call : Call} {answer : Answer} {rest : Trace}
-      → Step table s call answer s' → Run table s' rest end → Run table s ((call, answer) ∷ rest) end
+      → Step s call answer s' → Run s' rest end → Run s ((call, answer) ∷ rest) end
 
 -- The sum of what f says of each call with its answer.
 abbrev pub total : (Call → Answer → ℕ) → Trace → ℕ
@@ -31,75 +30,48 @@ total f (x ∷ xs) = f x.0 x.1 + total f xs
 -- The call was accepted with nothing else to tell.
 abbrev pub was_accepted : Answer → Bool
 was_accepted Accepted = true
-was_accepted (Withdrawn units) = false
-was_accepted (SlackIs k) = false
-was_accepted (Ticked k who) = false
-was_accepted (Refused why) = false
+was_accepted answer = false
 
 -- Of an accepted tick, what f says of who had it; of any other answer 0.
 abbrev pub of_tick : (Who → ℕ) → Answer → ℕ
-of_tick f Accepted = 0
-of_tick f (Withdrawn units) = 0
-of_tick f (SlackIs k) = 0
 of_tick f (Ticked k who) = f who
-of_tick f (Refused why) = 0
+of_tick f answer = 0
 
 -- The units that an accepted withdraw answered.
 abbrev pub given_back : Answer → ℕ
-given_back Accepted = 0
 given_back (Withdrawn units) = units
-given_back (SlackIs k) = 0
-given_back (Ticked k who) = 0
-given_back (Refused why) = 0
+given_back answer = 0
 
 -- A tick, whoever had it; one that row i had; one that errand n had.
 abbrev pub anyone : Who → ℕ
 anyone who = 1
 
 abbrev pub row_had : ℕ → Who → ℕ
-row_had i Nobody = 0
 row_had i (ForDuty j) = cond (j == i) 1 0
-row_had i (ForErrand n) = 0
+row_had i who = 0
 
 abbrev pub errand_had : ℕ → Who → ℕ
-errand_had n Nobody = 0
-errand_had n (ForDuty j) = 0
 errand_had n (ForErrand m) = cond (m == n) 1 0
+errand_had n who = 0
 
 -- The call is a release of row i; a done of row i.
 abbrev pub is_release : ℕ → Call → Bool
 is_release i (Release j) = j == i
-is_release i (Done j) = false
-is_release i (Request e) = false
-is_release i (Withdraw n) = false
-is_release i Slack = false
-is_release i Tick = false
+is_release i call = false
 
 abbrev pub is_done : ℕ → Call → Bool
-is_done i (Release j) = false
 is_done i (Done j) = j == i
-is_done i (Request e) = false
-is_done i (Withdraw n) = false
-is_done i Slack = false
-is_done i Tick = false
+is_done i call = false
 
 -- The units that the call requests for errand n.
 abbrev pub asked_for : ℕ → Call → ℕ
-asked_for n (Release i) = 0
-asked_for n (Done i) = 0
 asked_for n (Request e) = cond (e.number == n) e.units 0
-asked_for n (Withdraw m) = 0
-asked_for n Slack = 0
-asked_for n Tick = 0
+asked_for n call = 0
 
 -- The call is a withdraw of errand n.
 abbrev pub is_withdraw : ℕ → Call → Bool
-is_withdraw n (Release i) = false
-is_withdraw n (Done i) = false
-is_withdraw n (Request e) = false
 is_withdraw n (Withdraw m) = m == n
-is_withdraw n Slack = false
-is_withdraw n Tick = false
+is_withdraw n call = false
 
 -- How many ticks were accepted: how far the clock has gone.
 abbrev pub ticks : Trace → ℕ

@@ -36,12 +36,12 @@ abbrev pub response : List Duty → ℕ → Option ℕ
 response table i = least (suffices table i) 1 (duty_at table i).deadline
 
 -- Row i has no response time.
-abbrev pub late : List Duty → ℕ → Bool
-late table i = not (is_some (response table i))
+abbrev pub is_unschedulable : List Duty → ℕ → Bool
+is_unschedulable table i = not (is_some (response table i))
 
 -- The smallest row that has no response time.
-abbrev pub first_late : List Duty → Option ℕ
-first_late table = least (late table) 0 (length table)
+abbrev pub first_unschedulable : List Duty → Option ℕ
+first_unschedulable table = least (is_unschedulable table) 0 (length table)
 
 -- Every duty is within its limits.
 abbrev pub all_within : List Duty → Bool
@@ -50,12 +50,12 @@ all_within (d ∷ ds) = within_limits d && all_within ds
 
 -- The tables that can exist: at most sixteen rows, each within its limits, and each with a response time.
 abbrev pub admitted : List Duty → Bool
-admitted table = nat_le (length table) 16 && all_within table && not (is_some (first_late table))
+admitted table = nat_le (length table) 16 && all_within table && not (is_some (first_unschedulable table))
 
 -- 4, and the row.
-abbrev pub unschedulable : Option ℕ → List ℕ
-unschedulable None = []
-unschedulable (Some row) = 4 ∷ row ∷ []
+abbrev pub unschedulable_refusal : Option ℕ → List ℕ
+unschedulable_refusal None = []
+unschedulable_refusal (Some row) = 4 ∷ row ∷ []
 
 -- What refuses the insertion of a duty at a place, the smallest number first: 1, there is no such place;
 -- 2, the duty breaks its limits; 3, the table has sixteen rows; 4 with the smallest row of the new table
@@ -65,7 +65,7 @@ add_refusal table place d =
     cond (nat_lt (length table) place) (1 ∷ [])
     (cond (not (within_limits d)) (2 ∷ [])
     (cond (nat_le 16 (length table)) (3 ∷ [])
-    (unschedulable (first_late (insert table place d)))))
+    (unschedulable_refusal (first_unschedulable (insert table place d)))))
 
 -- The table after the insertion was refused or accepted: as before, or with the duty at its place and the rows
 -- from there on moved down one.

@@ -1,7 +1,7 @@
 -- Worked examples, reckoned by hand and proved about the definitions.
 use Rattle.std.specs.Prelude.{◌≡◌, ℕ, ◌+◌, List, [], ◌∷◌, replicate, Some}
 use Rattle.model.specs.Machine.{released}
-use Rattle.model.specs.Reckoning.{row_slack, table_slack}
+use Rattle.model.specs.Slack.{row_slack, table_slack}
 use Rattle.model.specs.Table.{add_refusal, response}
 use Rattle.model.specs.declared.duties.Duty.{Duty}
 use Rattle.model.specs.declared.rows.Row.{Row}
@@ -27,7 +27,7 @@ none_released = replicate 3 (Idle 0)
 abbrev pub whole : List Duty
 whole = duty 4 4 4 ∷ []
 
--- A worked figure of Davis, On Exploiting Spare Capacity in Hard Real-Time Systems, at clock 2.
+-- A worked figure of Davis's thesis (see src/lib.rt), at clock 2.
 abbrev pub figure : List Duty
 figure = duty 1 4 6 ∷ duty 3 6 10 ∷ duty 1 11 12 ∷ []
 
@@ -42,7 +42,7 @@ pub record WorkedExamples : Type 0 where
   pub responses : (response three 0 ≡ Some 1) × (response three 1 ≡ Some 3) × (response three 2 ≡ Some 10)
   pub taken : add_refusal two 2 (duty 3 10 12) ≡ []
   pub too_tight : add_refusal two 2 (duty 3 9 12) ≡ 4 ∷ 2 ∷ []
-  pub pushed_late : add_refusal (duty 3 3 5 ∷ []) 0 (duty 1 4 4) ≡ 4 ∷ 1 ∷ []
+  pub made_unschedulable : add_refusal (duty 3 3 5 ∷ []) 0 (duty 1 4 4) ≡ 4 ∷ 1 ∷ []
   pub slack_released : (slack_at 0 three all_released 0 ≡ 3)
       × (slack_at 0 three all_released 1 ≡ 2)
       × (slack_at 0 three all_released 2 ≡ 2)

@@ -1,4 +1,7 @@
-// The vocabulary of the dispatcher: plain types, with the definitions in specs/ that contracts cite.
+//! The vocabulary of the dispatcher: plain types, with the definitions in specs/ that contracts cite, and their laws.
+//!
+//! Tasks, response times and slack are those of R. I. Davis, *On Exploiting Spare Capacity in Hard Real-Time Systems*,
+//! for whole ticks. Here a hard sporadic task is a duty and a soft request is an errand.
 #![tactic(auto)]
 
 mod calls;

@@ -1,37 +1,38 @@
 ghost use Rattle.std.specs.Prelude.{◌≡◌, slice_index};
-ghost use Rattle.model.specs.Refusals.{told};
+ghost use Rattle.model.specs.Refusals.{refusal_code};
 
-// Why a call was refused.
+/// Why a call was refused. Where several refusals fit a call, it is the one of the smallest number.
 #[derive(Clone, Copy, PartialEq, Eq, Debug)]
 pub enum Refusal {
-    // There is no such row; for an insertion, no such place.
+    /// 1: there is no such row; for an insertion, no such place.
     NoSuchRow,
-    // The limits of cost, deadline and separation are broken.
+    /// 2: the limits of cost, deadline and separation are broken.
     DutyLimits,
-    // The table has all its rows.
+    /// 3: the table has all its sixteen rows.
     TableFull,
-    // A row of the new table would have no response time; the smallest such row.
+    /// 4: a row of the new table would have no response time; the number of the smallest such row.
     Unschedulable(u32),
-    // The row may not be released yet.
+    /// 5: the row may not be released yet.
     TooSoon,
-    // The row has no job.
+    /// 6: the row has no job.
     RowIdle,
-    // The clock is at its last value.
+    /// 7: the clock is at its last value, 4,294,967,295.
     ClockEnded,
-    // The limits of units or worth are broken.
+    /// 8: the limits of units or worth are broken.
     ErrandLimits,
-    // An errand of this number waits already.
+    /// 9: an errand of this number waits already.
     AlreadyWaiting,
-    // Every place is taken.
+    /// 10: as many errands wait as there are places.
     NoPlace,
-    // No errand of this number waits.
+    /// 11: no errand of this number waits.
     NotWaiting,
 }
 
 impl Refusal {
-    // The number under which the refusal is reported. Those who read transcripts know refusals by it, so it is no `Display` in words.
+    /// The number under which the refusal is reported, 1 to 11. Those who read transcripts know refusals by it, so it is no `Display`
+    /// in words.
     pub fn number(&self) -> u32
-        ensures { result ≡ slice_index (told self.now) 0 }
+        ensures { result ≡ slice_index (refusal_code self.now) 0 }
     {
         match self {
             Refusal::NoSuchRow => 1,

@@ -1,17 +1,19 @@
 mod After
-mod Answering
-mod Arising
+mod Arises
+mod AtNumber
 mod Best
-mod Calling
-mod Changing
+mod Calls
+mod Changed
 pub mod Earliest
-mod Joining
-pub mod Leaving
+pub mod Left
 mod Lookups
+mod LookupsAfter
 mod Meanings
-pub mod Naming
+pub mod Named
+mod NextSteps
+mod PlacedAll
+pub mod QueueAfter
+mod RefusalCodes
+mod SameQueue
 mod Scripts
-pub mod Standing
-mod Telling
-mod Turned
 mod Waiting

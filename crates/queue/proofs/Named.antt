@@ -1,14 +1,14 @@
--- The choices of the two queues name an errand that waits, whenever one does.
+-- The choices of the two queues name an errand that waits, wherever one does, and none where none does.
 use Rattle.std.proofs.Common.{◌≡◌, ℕ, true, eqb, List, [], ◌∷◌, map, is_some, Some, refl, ap}
 use Rattle.std.specs.List.{AllByRecursion}
 use Rattle.std.proofs.ByRecursion.{All-weaker}
 use Rattle.std.proofs.lemmas.Bool.{cond_both}
 use Rattle.model.specs.Queues.{look, names_right}
 use Rattle.model.specs.declared.errands.Errand.{Errand}
-use Rattle.queue.proofs.Standing.{NamesRight}
+use Rattle.queue.proofs.QueueAfter.{NamesRight}
 use Rattle.queue.proofs.Waiting.{waiting_of}
 use Rattle.queue.specs.Arrivals.{Arrival, Rated, arrived, best_from, best_of, best_rated, better, earliest, first_of, rated}
-use Rattle.queue.proofs.Changing.{look_first}
+use Rattle.queue.proofs.LookupsAfter.{look_first}
 
 -- The best of some is one of them.
 best_is_one : (P : Rated → Type 0) (b : Rated) (came : List Rated) → P b → AllByRecursion P came → P (best_from b came)
@@ -45,7 +45,7 @@ module _ (worth units : Errand → ℕ) where
       let all = all_wait (a ∷ came) in
       best_is_one (Waits (waiting_of (a ∷ came))) (rated worth units a) (map (rated worth units) came) all.0 all.1
 
-  -- The choice of a queue that rates does,
+  -- The choice of a queue that rates errands does,
   pub best_names_right : NamesRight (best_rated worth units)
   best_names_right past = best_named (arrived past)
 
