@@ -1,10 +1,10 @@
 // The hard side of the dispatcher: a table, the state of each of its rows and the clock, with the exact slack.
 #![tactic(auto)]
 
-mod acts;
+mod calls;
 mod slack;
 mod streams;
-mod stretches;
+mod demands;
 #[cfg(test)]
 mod tests;
 mod workloads;

@@ -10,7 +10,7 @@ use Rattle.table.specs.declared.settings.Setting.{Setting}
 use Rattle.workload.specs.Slots.{work_of}
 use Rattle.workload.proofs.workloads.Workload.start.Goals as goal
 
--- The first of sixteen idle records are the fresh rows.
+-- The first of sixteen idle slots are the fresh rows.
 fresh_slots : (s : Setting) → work_of (table_of s) 0 (replicate 16 (Idle 0)) ≡ fresh_work (table_of s)
 fresh_slots s =
     let few : length (table_of s) ≤ 16 = (admitted_says (table_of s) s.admits).few in

@@ -1,4 +1,4 @@
--- A call to one row of the records: what it leaves of the work, and that the work is still kept.
+-- A call to one row: what it writes in the slots is what the model's call leaves of the work, and the work is still kept.
 use Rattle.std.proofs.Common.{◌≡◌, ℕ, ◌<◌, true, List, [], ◌∷◌, length, get_or, take, set, OnErr, Ok, Err, Result, sym, refl, ap, ◌∙◌, arith, subst}
 use Rattle.std.proofs.lemmas.List.{get_or-take, set-get_or}
 use Rattle.std.proofs.lemmas.Bool.{cond-true, lt-ltb}
@@ -19,7 +19,7 @@ use Rattle.model.specs.declared.rows.RowCall.{RowCall}
 use Rattle.model.specs.contracts.rows.Row.{the_row}
 use Rattle.table.specs.Settings.{table_of}
 use Rattle.table.specs.contracts.settings.Setting.{the_row as the_setting}
-use Rattle.workload.specs.Slots.{acted, work_of}
+use Rattle.workload.specs.Slots.{row_called, work_of}
 use Rattle.workload.specs.Workloads.{work_in}
 use Rattle.workload.specs.contracts.workloads.Workload.{struct, the_propositions}
 use Rattle.workload.specs.declared.workloads.Workload.{Workload}
@@ -33,19 +33,19 @@ module _ (table : List Duty) (clock : ℕ) (slots : List Row) (i : ℕ) (call : 
   abbrev work : Work
   work = work_of table clock slots
 
-  -- The record before the call, and the records after it.
+  -- The slot before the call, and all slots after it.
   abbrev before : Row
   before = get_or slots i no_row
 
   abbrev after : List Row
-  after = set slots i (acted (duty_at table i) clock before call)
+  after = set slots i (row_called (duty_at table i) clock before call)
 
   read : before ≡ row_at work.rows i
   read = sym (get_or-take (length table) slots i no_row inside)
 
-  written : (work_of table clock after).rows ≡ set work.rows i (acted (duty_at table i) clock (row_at work.rows i) call)
+  written : (work_of table clock after).rows ≡ set work.rows i (row_called (duty_at table i) clock (row_at work.rows i) call)
   written =
-      take_set slots (length table) i _ ∙ ap (λ (row : Row). set work.rows i (acted (duty_at table i) clock row call)) read
+      take_set slots (length table) i _ ∙ ap (λ (row : Row). set work.rows i (row_called (duty_at table i) clock row call)) read
 
   pub row_answers : call_refusal work i call ≡ row_refusal clock before call
   row_answers =
@@ -56,45 +56,46 @@ module _ (table : List Duty) (clock : ℕ) (slots : List Row) (i : ℕ) (call : 
   refused_by why e = ap (λ (row : Row). row_refusal clock row call) (sym read) ∙ sym row_answers ∙ e
 
   pub accepted_work : call_refusal work i call ≡ [] → work_of table clock after ≡ after_call work i call
-  accepted_work e = ap (with_rows work) (written ∙ ap (set work.rows i) (rw (refused_by [] e, acted)))
+  accepted_work e = ap (with_rows work) (written ∙ ap (set work.rows i) (rw (refused_by [] e, row_called)))
 
   refused_work : (n : ℕ) (ns : List ℕ) → call_refusal work i call ≡ n ∷ ns → work_of table clock after ≡ work
   refused_work n ns e =
-      let same : acted (duty_at table i) clock (row_at work.rows i) call ≡ row_at work.rows i = rw (refused_by (n ∷ ns) e, acted) in
+      let same : row_called (duty_at table i) clock (row_at work.rows i) call ≡ row_at work.rows i = rw (refused_by (n ∷ ns) e, row_called) in
       ap (with_rows work) (written ∙ ap (set work.rows i) same ∙ set-get_or work.rows i no_row)
 
   after_keeps : (why : List ℕ) → call_refusal work i call ≡ why → Keeps (work_of table clock after)
   after_keeps [] e = subst Keeps (sym (accepted_work e)) (call_keeps work i call keeps e)
   after_keeps (n ∷ ns) e = subst Keeps (sym (refused_work n ns e)) keeps
 
-  pub asked_keeps : Keeps (work_of table clock after)
-  asked_keeps = after_keeps (call_refusal work i call) refl
+  pub slot_call_keeps : Keeps (work_of table clock after)
+  slot_call_keeps = after_keeps (call_refusal work i call) refl
 
 -- A workload is its setting, the sixteen rows and its clock; what else it keeps are facts.
 pub same_workload : (w w' : Workload) → w'.setting ≡ w.setting → w'.rows ≡ w.rows → w'.clock ≡ w.clock → w' ≡ w
 same_workload w w' setting slots clock =
     values_one struct (the_propositions the_setting.coded the_row.coded) w' w (λ i. (setting i, (slots i, (clock i, tt))))
 
--- What the workload then answers and holds.
-pub record Asked {X : Type 0} (w : Workload) (i : ℕ) (call : RowCall) (r : Result X Refusal) (w' : Workload) : Type 0 where
+-- What a call to row i answers, and that it writes this row's slot alone.
+pub record SlotCalled {X : Type 0} (w : Workload) (i : ℕ) (call : RowCall) (r : Result X Refusal) (w' : Workload) : Type 0 where
   pub inside : i < length (table_of w.setting)
   pub answers : refusal r ≡ row_refusal w.clock (get_or w.rows i no_row) call
-  pub left : w'.rows ≡ set w.rows i (acted (duty_at (table_of w.setting) i) w.clock (get_or w.rows i no_row) call)
+  pub left : w'.rows ≡ set w.rows i (row_called (duty_at (table_of w.setting) i) w.clock (get_or w.rows i no_row) call)
   pub setting : w'.setting ≡ w.setting
   pub clock : w'.clock ≡ w.clock
 
-pub asked_called : {X : Type 0} (w w' : Workload) (i : ℕ) (call : RowCall) (r : Result X Refusal)
-    → Asked w i call r w' → RowCalled (work_in w) i call r (work_in w') × OnErr r (w' ≡ w)
-asked_called w w' i call (Ok x) asked =
+-- So it is the model's call, and leaves the workload as it was where it is refused.
+pub slot_called : {X : Type 0} (w w' : Workload) (i : ℕ) (call : RowCall) (r : Result X Refusal)
+    → SlotCalled w i call r w' → RowCalled (work_in w) i call r (work_in w') × OnErr r (w' ≡ w)
+slot_called w w' i call (Ok x) called =
     let table = table_of w.setting in
-    let free = row_answers table w.clock w.rows i call (keeps_in w) asked.inside ∙ sym asked.answers in
-    let same : work_in w' ≡ work_of table w.clock (set w.rows i (acted (duty_at table i) w.clock (get_or w.rows i no_row) call)) =
-    rw (asked.setting, asked.clock, asked.left) refl in
-    ((free, same ∙ accepted_work table w.clock w.rows i call (keeps_in w) asked.inside free), tt)
-asked_called w w' i call (Err why) asked =
+    let free = row_answers table w.clock w.rows i call (keeps_in w) called.inside ∙ sym called.answers in
+    let same : work_in w' ≡ work_of table w.clock (set w.rows i (row_called (duty_at table i) w.clock (get_or w.rows i no_row) call)) =
+    rw (called.setting, called.clock, called.left) refl in
+    ((free, same ∙ accepted_work table w.clock w.rows i call (keeps_in w) called.inside free), tt)
+slot_called w w' i call (Err why) called =
     let table = table_of w.setting in
     let (n, ns, some) = refusal_code_some why in
-    let barred : row_refusal w.clock (get_or w.rows i no_row) call ≡ n ∷ ns = sym asked.answers ∙ some in
-    let same : acted (duty_at table i) w.clock (get_or w.rows i no_row) call ≡ get_or w.rows i no_row = rw (barred, acted) in
-    let stays = same_workload w w' asked.setting (asked.left ∙ ap (set w.rows i) same ∙ set-get_or w.rows i no_row) asked.clock in
-    ((row_answers table w.clock w.rows i call (keeps_in w) asked.inside ∙ sym asked.answers, ap work_in stays), stays)
+    let barred : row_refusal w.clock (get_or w.rows i no_row) call ≡ n ∷ ns = sym called.answers ∙ some in
+    let same : row_called (duty_at table i) w.clock (get_or w.rows i no_row) call ≡ get_or w.rows i no_row = rw (barred, row_called) in
+    let stays = same_workload w w' called.setting (called.left ∙ ap (set w.rows i) same ∙ set-get_or w.rows i no_row) called.clock in
+    ((row_answers table w.clock w.rows i call (keeps_in w) called.inside ∙ sym called.answers, ap work_in stays), stays)

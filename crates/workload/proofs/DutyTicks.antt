@@ -11,7 +11,7 @@ use Rattle.model.specs.Machine.{RowCalled, Work, after_call, call_refusal, duty_
 use Rattle.model.specs.declared.refusals.Refusal.{Refusal}
 use Rattle.model.specs.declared.rows.RowCall.TheVariants.{Run}
 use Rattle.table.specs.Settings.{table_of}
-use Rattle.workload.proofs.Asked.{keeps_in, row_answers}
+use Rattle.workload.proofs.RowCalls.{keeps_in, row_answers}
 use Rattle.workload.specs.Workloads.{work_in}
 use Rattle.workload.specs.declared.workloads.Workload.{Workload}
 
@@ -39,7 +39,7 @@ module _ (w : Workload) where
         row_answers (table_of w.setting) w.clock w.rows i Run (keeps_in w) ready_inside
         ∙ run_accepted w.clock (get_or w.rows i no_row)
 
-    -- and has had it once it was asked to run.
+    -- and has had it once it was called to run.
     pub row_ran : {X : Type 0} (r : Result X Refusal) (then : Work) → RowCalled (work_in w) i Run r then → then ≡ duty_tick (work_in w)
     row_ran (Ok x) then (free, is) =
         let tick : duty_tick (work_in w) ≡ after_call (work_in w) i Run = rw (e, duty_tick) in
