@@ -61,7 +61,8 @@ impl Ahead {
 
 impl Workload {
     /// The table's slack in ticks, with the releases for the clock over: the least over the rows of the row's slack, 65,535 where there
-    /// are no rows. A row's slack is the number of ticks up to its deadline that neither it nor a more urgent row can need.
+    /// are no rows. A row's slack is the number of ticks that neither the row nor a more urgent one can need, up to the deadline of its
+    /// job, or of the next job that can come.
     ///
     /// It is the exact dynamic slack of R. I. Davis, *On Exploiting Spare Capacity in Hard Real-Time Systems*, for whole ticks.
     pub fn slack(&self) -> u32
