@@ -68,15 +68,15 @@ pub all_ask_monotone : (ss : List Stream) (v w : ℕ) → v ≤ w → all_ask ss
 all_ask_monotone [] v w le = omega arith
 all_ask_monotone (s ∷ ss) v w le = omega (arith, asks_monotone s v w le, all_ask_monotone ss v w le)
 
--- The sum with one stream more, and the streams that remain to be added.
-pub all_ask_more : (ss : List Stream) (k w sum jobs : ℕ) → k < length ss
+-- The sum with stream k more, where it has so many jobs, and the streams that remain to be added.
+pub all_ask_more : (ss : List Stream) (k : ℕ) → k < length ss → (w sum jobs : ℕ)
     → jobs ≡ ceil (w - (get_or ss k no_stream).first) (get_or ss k no_stream).separation
     → sum + all_ask (drop k ss) w ≡ all_ask ss w
     → sum + ((get_or ss k no_stream).left + (get_or ss k no_stream).cost * jobs) + all_ask (drop (k + 1) ss) w ≡ all_ask ss w
-all_ask_more ss k w sum jobs lt are so_far =
+all_ask_more ss k inside w sum jobs counts so_far =
     let more : all_ask (drop k ss) w ≡ asks (get_or ss k no_stream) w + all_ask (drop (k + 1) ss) w =
-    at_drop_more (λ rest. all_ask rest w) ss k no_stream lt in
-    rw are (omega arith)
+    at_drop_more (λ rest. all_ask rest w) ss k no_stream inside in
+    rw counts (omega arith)
 
 -- A stream's next job at w or later begins at x: not long after w, and the stream asks for the same until then.
 pub record NextJob (s : Stream) (w x : ℕ) : Type 0 where
@@ -97,10 +97,10 @@ next_job s w t =
       same = ap (λ n. s.left + s.cost * n) (ap (λ n. ceil n s.separation) since ∙ ceil_whole jobs s.separation t.apart);
     }
 
-pub next_at : (ss : List Stream) (k w jobs : ℕ) → all_bounded ss ≡ true → k < length ss
+pub next_at : (ss : List Stream) (k : ℕ) → k < length ss → all_bounded ss ≡ true → (w jobs : ℕ)
     → jobs ≡ ceil (w - (get_or ss k no_stream).first) (get_or ss k no_stream).separation
     → NextJob (get_or ss k no_stream) w ((get_or ss k no_stream).first + jobs * (get_or ss k no_stream).separation)
-next_at ss k w jobs h lt are = rw are (next_job (get_or ss k no_stream) w (bounds_at ss k h lt))
+next_at ss k inside bounded w jobs counts = rw counts (next_job (get_or ss k no_stream) w (bounds_at ss k bounded inside))
 
 -- One stream more of the sum over the first ones.
 all_ask_append : (ss ts : List Stream) (w : ℕ) → all_ask (ss ++ ts) w ≡ all_ask ss w + all_ask ts w
@@ -118,14 +118,16 @@ all_ask_take ss k w lt =
 still_until : (f : ℕ → ℕ) → ((v w : ℕ) → v ≤ w → f v ≤ f w) → (v x y : ℕ) → v ≤ x → x ≤ y → f y ≡ f v → f x ≡ f v
 still_until f monotone v x y low high same = omega (arith, monotone v x low, monotone x y high)
 
--- One stream more: all of them stay quiet until `least`.
-pub quiet_more : (ss : List Stream) (k ticks until next least : ℕ) → k < length ss
-    → ticks ≤ until → NextJob (get_or ss k no_stream) ticks next → least ≡ min until next
+-- One stream more: all of them stay quiet until the sooner of its next job and of how far the others stay so.
+pub quiet_more : (ss : List Stream) (k : ℕ) → k < length ss → (ticks until next : ℕ)
+    → ticks ≤ until
     → all_ask (take k ss) until ≡ all_ask (take k ss) ticks
-    → all_ask (take (k + 1) ss) least ≡ all_ask (take (k + 1) ss) ticks
-quiet_more ss k ticks until next least lt low job is before =
+    → NextJob (get_or ss k no_stream) ticks next
+    → all_ask (take (k + 1) ss) (min until next) ≡ all_ask (take (k + 1) ss) ticks
+quiet_more ss k inside ticks until next low before job =
     let s = get_or ss k no_stream in
+    let least = min until next in
     let above : ticks ≤ least = omega (arith, job.ahead) in
     let this = still_until (asks s) (asks_monotone s) ticks least next above (omega arith) job.same in
     let others = still_until (all_ask (take k ss)) (all_ask_monotone (take k ss)) ticks least until above (omega arith) before in
-    omega (arith, this, others, all_ask_take ss k least lt, all_ask_take ss k ticks lt)
+    omega (arith, this, others, all_ask_take ss k least inside, all_ask_take ss k ticks inside)

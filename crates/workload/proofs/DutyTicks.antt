@@ -1,5 +1,5 @@
 -- A tick that goes to the duties: what it leaves of the work, before the clock moves on.
-use Rattle.std.proofs.Common.{◌≡◌, ℕ, ◌<◌, [], length, get_or, Some, None, Ok, Err, Result, sym, refl, ap, ◌∙◌, arith, subst}
+use Rattle.std.proofs.Common.{◌≡◌, ℕ, ◌<◌, [], length, get_or, Some, None, Ok, Err, Result, sym, ◌∙◌, arith, subst}
 use Rattle.model.proofs.Admitted.{admitted_says}
 use Rattle.model.proofs.Invariant.{kept_gives}
 use Rattle.model.proofs.RefusalCodes.{refusal_code_some}

@@ -1,5 +1,5 @@
 -- A call to one row: what it writes in the slots is what the model's call leaves of the work, and the work is still kept.
-use Rattle.std.proofs.Common.{◌≡◌, ℕ, ◌<◌, true, List, [], ◌∷◌, length, get_or, take, set, OnErr, Ok, Err, Result, sym, refl, ap, ◌∙◌, arith, subst}
+use Rattle.std.proofs.Common.{◌≡◌, ℕ, ◌<◌, List, [], ◌∷◌, length, get_or, set, OnErr, Ok, Err, Result, sym, refl, ap, ◌∙◌, arith, subst}
 use Rattle.std.proofs.lemmas.List.{get_or-take, set-get_or}
 use Rattle.std.proofs.lemmas.Bool.{cond-true, lt-ltb}
 use denote.Struct.Record.{values_one}

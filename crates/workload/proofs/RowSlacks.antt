@@ -86,12 +86,16 @@ module _ (w : Workload) where
           → before ≡ first_streams i → stream ≡ stream_of work.clock duty row → after ≡ before ++ stream ∷ [] → after ≡ first_streams (i + 1)
       streams_more before after stream so_far is pushed = cc stream_more
 
-      pub slack_more : (streams : List Stream) (window idle least : ℕ)
-          → streams ≡ first_streams (i + 1)
-          → window ≡ window_end (work.clock + 1) duty row - work.clock → window ≤ 8192
-          → idle ≡ idle_ticks (all_ask streams) window
+      -- What the loop has of row i: the streams up to it, its window, and their idle ticks in the window.
+      pub record RowIdle (streams : List Stream) (window idle : ℕ) : Type 0 where
+        pub are : streams ≡ first_streams (i + 1)
+        pub ends : window ≡ window_end (work.clock + 1) duty row - work.clock
+        pub short : window ≤ 8192
+        pub counts : idle ≡ idle_ticks (all_ask streams) window
+
+      pub slack_more : (streams : List Stream) (window idle least : ℕ) → RowIdle streams window idle
           → least ≡ least_of slacks i → min least idle ≡ least_of slacks (i + 1)
-      slack_more streams window idle least are ends short is so_far =
+      slack_more streams window idle least of-row so_far =
           let few = idle_at_most (all_ask streams) (all_ask_monotone streams) window in
-          let slack : idle ≡ slacks i = cc idle_is_slack in
-          rw so_far (ap (min (least_of slacks i)) slack ∙ least_of_more slacks i (omega (arith, few, slack, is)))
+          let slack : idle ≡ slacks i = cc (of-row.are, of-row.ends, of-row.counts, idle_is_slack) in
+          rw so_far (ap (min (least_of slacks i)) slack ∙ least_of_more slacks i (omega (arith, few, slack, of-row.counts, of-row.short)))

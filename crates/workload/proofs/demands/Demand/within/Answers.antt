@@ -10,8 +10,8 @@ more : (c : goal.After-jobs)
     c.loop-stream.sum + (stream.left + stream.cost * c.jobs.result) + all_ask (drop (c.loop-stream.stream-index + 1) ss) c.args.ticks
     ≡ all_ask ss c.args.ticks
 more c =
-    all_ask_more c.args.self.now.streams.now c.loop-stream.stream-index c.args.ticks c.loop-stream.sum c.jobs.result
-    c.loop-stream-test.true c.jobs.ensures c.loop-stream.invariant
+    all_ask_more c.args.self.now.streams.now c.loop-stream.stream-index c.loop-stream-test.true c.args.ticks c.loop-stream.sum
+    c.jobs.result c.jobs.ensures c.loop-stream.invariant
 
 pub jobs-requires : goal.jobs-requires
 jobs-requires c = (bounds_at c.args.self.now.streams.now c.loop-stream.stream-index c.args.self.now.bounded c.loop-stream-test.true).apart

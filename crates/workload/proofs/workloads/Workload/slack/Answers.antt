@@ -28,5 +28,12 @@ loop-duty-preserved c =
     let i = length c.loop-duty.yielded in
     let (lt, fits, duty, row) = zip_turn (work_in w).table (work_in w).rows c.loop-duty.yielded _ _ c.next.new.self _ (cc) (cc) c.loop-duty.yielded_by _ c.in-Some.is c.next.ensures.steps in
     let streams = streams_more w i lt _ _ (duty no_duty) (row no_row) _ _ _ c.loop-duty.invariant.0 c.stream.ensures c.push.ensures.items in
-    let slack = slack_more w i lt _ _ (duty no_duty) (row no_row) _ _ _ _ (c.deref.ensures.0 ∙ streams) c.window.ensures.value c.window.ensures.bound c.idle_ticks.ensures c.loop-duty.invariant.1 in
+    let slack = slack_more w i lt _ _ (duty no_duty) (row no_row) _ _ _ _ 
+    (record {
+      are = c.deref.ensures.0 ∙ streams;
+      ends = c.window.ensures.value;
+      short = c.window.ensures.bound;
+      counts = c.idle_ticks.ensures;
+    })
+    c.loop-duty.invariant.1 in
     simp length-append (streams, c.min-least.ensures ∙ slack)

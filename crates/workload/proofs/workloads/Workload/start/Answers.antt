@@ -1,4 +1,4 @@
-use Rattle.std.proofs.Common.{◌≡◌, ◌≤◌, length, take, replicate, ap, ◌∙◌, sym}
+use Rattle.std.proofs.Common.{◌≡◌, ◌≤◌, length, replicate, ap, ◌∙◌}
 use Rattle.std.proofs.lemmas.List.{drop-replicate, take-replicate}
 use Rattle.model.proofs.Admitted.{admitted_says}
 use Rattle.model.proofs.Spare.{fresh_keeps}
