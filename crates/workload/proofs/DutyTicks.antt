@@ -36,7 +36,7 @@ module _ (w : Workload) where
     -- A ready row takes a tick,
     accepted : call_refusal (work_in w) i Run ≡ []
     accepted =
-        row_answers (table_of w.setting) w.clock w.rows i Run (keeps_in w) ready_inside
+        row_answers w i Run ready_inside
         ∙ run_accepted w.clock (get_or w.rows i no_row)
 
     -- and has had it once it was called to run.
