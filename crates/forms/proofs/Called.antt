@@ -1,4 +1,6 @@
--- A call's word and numbers between two brackets are a form.
+-- A call's word and numbers between two brackets are a form, so whether an item is a call can be found out without reading it as a form.
+-- Where an item stands in brackets and its items say a call, the grammar reads it as a form; where it does not, it is no form, since the
+-- last byte of a form closes its first bracket.
 use Rattle.std.proofs.Common.{◌≡◌, ℕ, zero, suc, ◌+◌, ◌-◌, Bool, true, false, cond, ◌&&◌, eqb, ltb, List, [], ◌∷◌, ◌++◌, length, take, drop, get_or, is_some, Some, None, Option, codes, sym, refl, ap, ◌∙◌, subst, ⊎_elim, arith}
 use Rattle.std.specs.Option.{option_map}
 use Rattle.std.specs.Str.{bytes_eq}

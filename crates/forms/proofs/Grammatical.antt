@@ -1,4 +1,7 @@
--- A line is a form by the grammar exactly if its brackets pair up and its bytes may stand one after the other.
+-- A line is a form by the grammar exactly if its brackets pair up and its bytes may stand one after the other. One way goes by induction
+-- over what the grammar reads: behind it, the bytes to come are judged as if it were not there. The other way goes by induction over the
+-- bytes, from the last to the first: bytes that may stand so and that close d brackets are d levels of items, each with a closing bracket
+-- behind it, and one byte more in front of them continues an item, begins one, or opens or closes a level.
 use Rattle.std.proofs.Common.{◌≡◌, ℕ, zero, suc, ◌+◌, ◌-◌, ◌<◌, ◌≤◌, Bool, true, ◌&&◌, ◌||◌, ltb, List, [], ◌∷◌, ◌++◌, sym, refl, ap, ◌∙◌, subst, ⊎_elim, arith}
 use Rattle.std.proofs.lemmas.List.{append_assoc}
 use Rattle.std.proofs.lemmas.Bool.{and_from, and_parts, cond-true, eqb-true, ltb-true, or_cases}
