@@ -8,7 +8,7 @@ use Rattle.std.proofs.lemmas.Option.{slice_get-map, slice_get_read}
 use Rattle.std.proofs.lemmas.Bool.{cond-true, cond-false, le-leb, lt-leb, le-ltb, leb-true, not_from_false, and_from, and_parts}
 use Rattle.model.specs.Histories.{by_put, was_spent, was_taken}
 use Rattle.model.specs.Queues.{Put, Spend, Take, Changes, look, distinct, errand_within, one_less}
-use Rattle.model.specs.Refusals.{told}
+use Rattle.model.specs.Refusals.{refusal_code}
 use Rattle.model.specs.declared.errands.Errand.{Errand}
 use Rattle.model.specs.declared.refusals.Refusal.{Refusal}
 use Rattle.model.specs.declared.refusals.Refusal.TheVariants.{NotWaiting}
@@ -35,7 +35,7 @@ first_found ss s was = ap (find (numbered s.errand.number)) was ∙ cond-true _ 
 
 -- Put
 pub put_waits : {R : _} (X : Type 0) (l : OrderedList Slot R) (e : Errand) (why : Refusal) → errand_within e ≡ true →
-    is_some (place_of e.number (held l)) ≡ true → told why ≡ 9 ∷ [] → Put {X = X} (line_meaning l) e (Err why) (line_meaning l)
+    is_some (place_of e.number (held l)) ≡ true → refusal_code why ≡ 9 ∷ [] → Put {X = X} (line_meaning l) e (Err why) (line_meaning l)
 put_waits X l e why within some number =
     let waits = sym (waits_somewhere e.number (held l)) ∙ some in
     (refused_waits (line_meaning l) e within waits ∙ sym number, refl)

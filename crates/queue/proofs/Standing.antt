@@ -2,7 +2,7 @@
 use Rattle.std.proofs.Common.{◌≡◌, ℕ, ◌≤◌, true, List, [], ◌∷◌, ◌++◌, length, Some, None, Ok, Err, Option, Result, sym, refl, ap, ◌∙◌, subst, arith, length-append}
 use Rattle.std.specs.List.{filter_map}
 use Rattle.std.proofs.lemmas.List.{map_push}
-use Rattle.model.proofs.Found.{some_is}
+use Rattle.model.proofs.Searches.{some_is}
 use Rattle.model.proofs.Histories.{stays_on}
 use Rattle.model.specs.Histories.{Choice, Event, History, by_put, by_spend, by_take, was_put, was_spent, was_taken}
 use Rattle.model.specs.Machine.{fresh}
@@ -136,7 +136,7 @@ module _ (choice : Choice) (right : NamesRight choice) (places : ℕ) where
 
 -- So every script has a run from the fresh state over an empty queue.
 pub script_runs_from_empty : (table : List Duty) (choice : Choice) (places : ℕ) (script : List Call) → NamesRight choice
-    → RunOf table choice [] (fresh table (queue_after choice places [])) script
+    → RunOf choice [] (fresh table (queue_after choice places [])) script
 script_runs_from_empty table choice places script right =
-    script_runs (Stands choice right places) choice (answers choice right places) table []
+    script_runs (Stands choice right places) choice (answers choice right places) []
     (fresh table (queue_after choice places [])) (stands_empty choice right places) script

@@ -1,9 +1,9 @@
 -- The numbers that refuse a call are told by a refusal.
 use Rattle.std.proofs.Common.{◌≡◌, ℕ, ◌<◌, Bool, true, false, cond, not, leb, ltb, List, [], ◌∷◌, length, is_some, None, Ok, Err, Result, refl}
 use Rattle.std.proofs.lemmas.Bool.{leb-false, not-false}
-use Rattle.model.specs.Machine.{call_refusal, row_refusal}
+use Rattle.model.specs.Demand.{row_at}
+use Rattle.model.specs.Machine.{Work, call_refusal, row_refusal}
 use Rattle.model.specs.Queues.{Meaning, errand_within, look, put_refusal}
-use Rattle.model.specs.Reckoning.{row_at}
 use Rattle.model.specs.Refusals.{refusal}
 use Rattle.model.specs.declared.errands.Errand.{Errand}
 use Rattle.model.specs.declared.refusals.Refusal.{Refusal}
@@ -31,9 +31,9 @@ row_told clock (Ready c d e) RowDone = (Ok tt, refl)
 row_told clock (Idle e) RowRun = (Ok tt, refl)
 row_told clock (Ready c d e) RowRun = (Ok tt, refl)
 
-pub call_told : (clock : ℕ) (rows : List Row) (i : ℕ) (call : RowCall) → Told (call_refusal clock rows i call)
-call_told clock rows i call =
-    told_either (ltb i (length rows)) _ _ (row_told clock (row_at rows i) call) (Err NoSuchRow, refl)
+pub call_told : (w : Work) (i : ℕ) (call : RowCall) → Told (call_refusal w i call)
+call_told w i call =
+    told_either (ltb i (length w.rows)) _ _ (row_told w.clock (row_at w.rows i) call) (Err NoSuchRow, refl)
 
 module _ (m : Meaning) (e : Errand) where
   -- and each that refuses a put.

@@ -1,15 +1,12 @@
 // The hard side of the dispatcher: a table, the state of each of its rows and the clock, with the exact slack.
 #![tactic(auto)]
 
-mod acts;
-mod asking;
+mod calls;
 mod slack;
 mod streams;
-mod stretches;
+mod demands;
 #[cfg(test)]
 mod tests;
-mod turns;
 mod workloads;
 
-pub use turns::Turn;
 pub use workloads::Workload;

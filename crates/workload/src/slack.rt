@@ -1,13 +1,15 @@
 // The exact slack of a workload.
 ghost use Rattle.std.specs.Prelude.{◌≡◌, ◌+◌, ◌-◌, ◌≤◌, true};
+ghost use Rattle.model.specs.Demand.{next_release};
 ghost use Rattle.model.specs.Kept.{row_kept};
-ghost use Rattle.model.specs.Reckoning.{next_release, table_slack, window_end};
+ghost use Rattle.model.specs.Machine.{slack_of};
+ghost use Rattle.model.specs.Slack.{window_end};
 ghost use Rattle.model.specs.Table.{within_limits};
 ghost use Rattle.workload.specs.Streams.{stream_of};
-ghost use Rattle.workload.specs.Workloads.{rows_in, table_in};
+ghost use Rattle.workload.specs.Workloads.{work_in};
 
 use crate::streams::Stream;
-use crate::stretches::Demand;
+use crate::demands::Demand;
 use crate::workloads::Workload;
 use arrayvec::ArrayVec;
 use model::{Duty, Row};
@@ -58,14 +60,17 @@ impl Ahead {
 }
 
 impl Workload {
-    // The table's slack, with the releases for the clock over: the least over the rows, 65,535 if there are none.
+    /// The table's slack in ticks, with the releases for the clock over: the least over the rows of the row's slack, 65,535 where there
+    /// are no rows. A row's slack is the number of ticks up to its deadline that neither it nor a more urgent row can need.
+    ///
+    /// It is the exact dynamic slack of R. I. Davis, *On Exploiting Spare Capacity in Hard Real-Time Systems*, for whole ticks.
     pub fn slack(&self) -> u32
-        ensures { result ≡ table_slack (self.now.clock + 1) self.now.clock (table_in self.now) (rows_in self.now) }
+        ensures { result ≡ slack_of (work_in self.now) }
     {
         // The streams of the rows so far.
         let mut streams: ArrayVec<Stream, MOST_ROWS> = ArrayVec::new();
         let mut least: u32 = 65535;
-        for (&duty, &row) in self.setting.rows().iter().zip(self.rows()) {
+        for (&duty, &row) in self.setting.duties().iter().zip(self.rows()) {
             let ahead = Ahead {
                 duty,
                 row,
