@@ -1,4 +1,4 @@
--- Nothing of a text is lost or made up when it is taken apart into lines, or a form into items.
+-- Taking a text apart into lines, or a form into items, loses nothing and adds nothing.
 use Rattle.std.proofs.Common.{◌≡◌, ℕ, suc, ◌+◌, false, not, ◌&&◌, eqb, List, [], ◌∷◌, length, sym, refl, ap, ◌∙◌, subst, inl, inr, ⊎_elim, arith}
 use Rattle.std.specs.List.{flat_map}
 use Rattle.std.proofs.lemmas.Bool.{and_from, and_parts, cases_Bool, eqb-true}

@@ -14,10 +14,12 @@ first_line p bs = record { bytes = take (line_length bs) bs; position = p; ended
 abbrev pub second_position : Position → List ℕ → Position
 second_position p bs = record { line = p.line + 1; byte = p.byte + min (length bs) (suc (line_length bs)) }
 
-same_split : (bytes rest : List ℕ) (p : Position) (e f : Bool) (l m n : ℕ) → e ≡ f → m ≡ n
-    → record { bytes = bytes; position = p; ended = e } ∷ lines (record { line = l; byte = m }) rest
-    ≡ record { bytes = bytes; position = p; ended = f } ∷ lines (record { line = l; byte = n }) rest
-same_split bytes rest p e f l m n same_end same_byte = cc
+-- A line of these bytes at a position, and the lines of the rest, which begins at byte n of the text.
+abbrev line_then : List ℕ → List ℕ → Position → Bool → ℕ → List Line
+line_then bytes rest p ended n = record { bytes = bytes; position = p; ended = ended } ∷ lines (record { line = p.line + 1; byte = n }) rest
+
+same_split : (bytes rest : List ℕ) (p : Position) {e f : Bool} {m n : ℕ} → e ≡ f → m ≡ n → line_then bytes rest p e m ≡ line_then bytes rest p f n
+same_split bytes rest p {f = f} {m = m} ends next = ap (λ (e : Bool). line_then bytes rest p e m) ends ∙ ap (line_then bytes rest p f) next
 
 abbrev Split : Position → List ℕ → Type 0
 Split p bs = lines p bs ≡ first_line p bs ∷ lines (second_position p bs) (drop (suc (line_length bs)) bs)
@@ -27,7 +29,7 @@ split_at_end p b bs t =
     rw t
     (let ends : true ≡ ltb 0 (suc (length bs)) = grind (arith, nat_tests) in
     let next : p.byte + 1 ≡ p.byte + min (suc (length bs)) 1 = omega arith in
-    same_split [] bs p true (ltb 0 (suc (length bs))) (p.line + 1) (p.byte + 1) (p.byte + min (suc (length bs)) 1) ends next)
+    same_split [] bs p ends next)
 
 split_later : (p : Position) (b : ℕ) (bs : List ℕ) → eqb b 10 ≡ false → Split (next_byte p) bs → Split p (b ∷ bs)
 split_later p b bs f rest =
@@ -37,8 +39,7 @@ split_later p b bs f rest =
     let ends : ltb n size ≡ ltb (suc n) (suc size) = grind (arith, nat_tests) in
     let next : p.byte + 1 + min size (suc n) ≡ p.byte + min (suc size) (suc (suc n)) = omega arith in
     ap (begun_by b p) rest
-    ∙ same_split (b ∷ take n bs) (drop (suc n) bs) p (ltb n size) (ltb (suc n) (suc size)) (p.line + 1)
-    (p.byte + 1 + min size (suc n)) (p.byte + min (suc size) (suc (suc n))) ends next)
+    ∙ same_split (b ∷ take n bs) (drop (suc n) bs) p ends next)
 
 -- A text is its first line and the lines behind that.
 pub lines_split : (p : Position) (b : ℕ) (bs : List ℕ) → Split p (b ∷ bs)

@@ -100,7 +100,7 @@ stays (more i inner first later) = λ depth rest some.
     ∙ begun_twice i inner (items depth rest))
     ∙ one_begun 32 (i ++ inner) (items depth rest)
 
--- Outside all brackets the spaces part items.
+-- Spaces outside all brackets stand between two items.
 record Parted (n : ℕ) (bs : List ℕ) : Type 0 where
   others : List (List ℕ)
   whole : items 0 bs ≡ [] ∷ others

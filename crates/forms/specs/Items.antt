@@ -109,6 +109,5 @@ numbers_fit bs = runs_fit 0 0 bs
 -- The values of items that are exactly n numbers.
 abbrev pub numbers : ℕ → List (List ℕ) → Option (List ℕ)
 numbers zero [] = Some []
-numbers zero (i ∷ is) = None
-numbers (suc n) [] = None
 numbers (suc n) (i ∷ is) = cond (is_number i) (option_map (λ vs. value i ∷ vs) (numbers n is)) None
+numbers n is = None

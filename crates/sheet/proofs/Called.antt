@@ -54,7 +54,7 @@ stand before p (l ∷ ls) size follow =
           follow.2,
     )
 
--- Calls that all stand are all handed out.
+-- Where every item is a call, all of them are handed out.
 first_call : (o : Option Call) (is : List (List ℕ)) → is_some o ≡ true → length (leading_calls is) ≡ length is
     → length (elim o as (λ x. List Call) [ None ↦ [] | Some c ↦ c ∷ leading_calls is ]) ≡ suc (length is)
 first_call None is stands rest = cc
@@ -120,7 +120,7 @@ value_at : (o : Option Said) (clock : ℕ) → unwrap_or o Remark ≡ AtClock cl
 value_at None clock e = cc
 value_at (Some x) clock e = ap Some e
 
--- The calls of an at-line that stands in the text.
+-- These bytes of an at-line have one call or more behind the clock, and nothing else.
 abbrev HandedOut : List ℕ → Type 0
 HandedOut bs =
     (0 < length (leading_calls (behind_first (behind_first (items 0 (inside bs))))))

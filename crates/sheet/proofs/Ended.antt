@@ -56,7 +56,7 @@ stays_over (l ∷ ls) s is_over faultless =
     let same : with_said s l (says l) ≡ s = over_only s l (says l) is_over next in
     ap (λ t. set_by_lines t ls) same ∙ stays_over ls s is_over (subst (λ t. Faultless t ls) same (later_faultless s l ls faultless))
 
--- What a line says is an end, or does not reach the end.
+-- A line either says the end, or what it says leaves the end not reached.
 record IsEnd (what : Said) : Type 0 where
   ticks : ℕ
   is : what ≡ End ticks
@@ -67,7 +67,7 @@ no_end_yet s l (Queue name) not_yet = inr refl
 no_end_yet s l (End ticks) not_yet = inl (record { ticks = ticks; is = refl })
 no_end_yet s l what not_yet = inr not_yet
 
--- One line more before a line that says something.
+-- A line that says something still does with one line more before it; and the first line says what it says.
 said_later : (l : Line) (ls : List Line) (what : Said) → Saying ls what → Saying (l ∷ ls) what
 said_later l ls what r =
     record { before = l ∷ r.before; line = r.line; behind = r.behind; whole = ap (λ xs. l ∷ xs) r.whole; is_said = r.is_said }
@@ -109,7 +109,7 @@ said_end ls s ticks faultless r =
     ap (set_by_lines s) r.whole ∙ set_behind s r.before (r.line ∷ r.behind) ∙ stays ∙ set in
     record { reached = ap (λ (v : SoFar). over v.stage) all; with_ticks = ap (λ (v : SoFar). v.ticks) all }
 
--- The first at-line that is late, by the lines.
+-- The first at-line that is late, looked for among the lines.
 abbrev fault_at : Line → Fault
 fault_at l = fault 16 SheetLayer l.position
 
@@ -153,7 +153,7 @@ pub record LateLine (ls : List Line) (ticks : ℕ) (f : Fault) : Type 0 where
   pub first : FirstLate ls ticks line
   pub fault_is : fault_at line ≡ f
 
--- What a line says is late, or the later lines decide; and then it says no clock that is late.
+-- Either a line says a clock that is late, or it says none, and the lines behind it decide.
 record Late (ticks : ℕ) (what : Said) : Type 0 where
   clock : ℕ
   is : what ≡ At clock

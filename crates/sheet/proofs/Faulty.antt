@@ -78,7 +78,7 @@ found_bad p (g ∷ good) rest b all bad =
     let both = and_parts (allowed g) (all_of allowed good) all in
     rw both.0 (found_bad (next_byte p) good rest b both.1 bad ∙ ap Some (sym (one_further p (length good))))
 
--- A remark says nothing else.
+-- A line that begins as a remark is one.
 remark_says : (l : Line) → is_remark l.bytes ≡ true → says l ≡ Remark
 remark_says l e = rw e
 
@@ -192,7 +192,7 @@ module _ (s : SoFar) (l : Line) where
       ⊎_elim (by_12 f) (λ i. ⊎_elim (by_13 f) (λ i. ⊎_elim (by_14 f) (λ i. ⊎_elim (by_15 f) (λ i. ⊎_elim (by_16 f) (λ i.
       ⊎_elim (by_17 f) (λ i. ⊎_elim (by_table f) (λ i. absurd i) i) i) i) i) i) i) i
 
-  -- The layers of what is behind.
+  -- The layers of the checks that come later.
   table_rank : (g : Fault) → OneOf (table_faults s l) g → rank g.layer ≡ 3
   table_rank g i =
       ⊎_elim (λ e. ap (λ (h : Fault). rank h.layer) (sym (table_found s.table l.position (says l) g e).fault_is)) (λ i. absurd i) i

@@ -1,4 +1,4 @@
--- What each line keeps is kept by all lines of a sheet.
+-- What every line of a sheet keeps, all of them keep; and what is known of a line, and of a text, that was read without a fault.
 use Rattle.std.proofs.Common.{◌≡◌, ℕ, ◌≤◌, Bool, true, false, leb, List, [], ◌∷◌, ◌++◌, length, Some, None, Ok, Err, Option, Result, sym, refl, subst}
 use Rattle.std.specs.List.{AllByRecursion}
 use Rattle.std.proofs.lemmas.Bool.{leb-true}

@@ -9,7 +9,7 @@ use Rattle.forms.specs.declared.sayings.Said.{Said}
 use Rattle.sheet.proofs.Judgements.{judged_after, judged_rest, judged_value, none_first}
 use Rattle.sheet.proofs.Kept.{unless_none}
 
--- The faults of order, for what is said.
+-- The faults of order of a line that says this.
 abbrev order_faults : SoFar → Line → Said → List (Option Fault)
 order_faults s l said =
     unless (in_order s.stage said) (fault 16 SheetLayer l.position)

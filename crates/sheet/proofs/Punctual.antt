@@ -24,7 +24,7 @@ found ticks (a ∷ ats) =
     let opposite : leb ticks a.clock ≡ not (ltb a.clock ticks) = grind (arith, nat_tests) in
     step _ _ _ _ a opposite (found ticks ats)
 
--- The fault of what was found, if anything.
+-- The fault of the at-line that was found, if one was.
 pub late_found : (ticks : ℕ) (ats : List At) (r : Option (Bor At))
     → option_map (λ x. x.now) r ≡ find (λ (a : At). leb ticks a.clock) ats
     → option_map (λ (x : Bor At). fault 16 Sheet x.now.part.position) r ≡ late ticks (map at_of ats)

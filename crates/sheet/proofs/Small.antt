@@ -1,4 +1,5 @@
--- No sheet is large: each line leaves room for those behind it.
+-- The sizes of a sheet: at most 256 at-lines, 10,000 ticks and sixteen rows, and no more bytes of at-lines than the text has. Each line that
+-- is read keeps these bounds.
 use Rattle.std.proofs.Common.{◌≡◌, ℕ, ◌+◌, ◌≤◌, Bool, true, cond, ◌&&◌, List, [], ◌∷◌, length, Some, None, Ok, unwrap_or, sym, ap, subst, ⊎_elim, arith, length-append}
 use Rattle.std.specs.List.{flat_map, sum_by}
 use Rattle.std.proofs.lemmas.Bool.{and_parts, leb-true, ltb-true, or_cases}
@@ -60,7 +61,7 @@ small_after bytes s u l ls judged before =
       ticks = few_ticks bytes s l ls before (says l) (end_is_near l taken.numbers);
     })
 
--- A sheet whose at-lines, ticks and rows are few.
+-- The bounds of a sheet that was read.
 pub record SmallSheet (set : Set) : Type 0 where
   pub bytes : byte_count set.ats ≤ 32768
   pub ats : length set.ats ≤ 256

@@ -15,7 +15,7 @@ fn fault_of(text: &[u8]) -> Option<Report> {
 #[test]
 fn a_sheet_is_read(rt: HostRuntime) -> Result<(), Fail> {
     let sheet = read(HARVEST)?;
-    assert_eq!(rt; sheet.setting().rows().len(), 2);
+    assert_eq!(rt; sheet.setting().duties().len(), 2);
     assert_eq!(rt; sheet.ticks(), 5);
     let ats = sheet.ats();
     assert!(rt; ats.len() == 2);
