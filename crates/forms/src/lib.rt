@@ -1,27 +1,20 @@
-// From the bytes of a text to its lines, and from a line to its form, its items and what it says; or the first fault of
-// the line's letters or of its form.
+// The lines of a text, the items of a line, and what a line says, or the first fault of its letters or of its form. A line is a form: a
+// word and items between two brackets, an item being a number, a word or a form.
 #![tactic(auto)]
 
 mod calls;
 mod faults;
-mod itemizing;
 mod items;
-mod judging;
 mod letters;
 mod lines;
 mod numbers;
-mod passing;
 mod sayings;
 mod shapes;
-mod splitting;
-mod wording;
 
 pub use calls::call;
-pub use faults::{FormsFault, Layer, LettersFault, Place, Report};
-pub use itemizing::taken_apart;
-pub use items::Items;
-pub use judging::form_said;
+pub use faults::{FormsFault, Layer, LettersFault, Position, Report};
+pub use items::{Items, taken_apart};
 pub use lines::{Line, Part, Reader};
 pub use numbers::numbers_by_value;
-pub use sayings::{QueueName, Said};
+pub use sayings::{QueueName, Said, form_said};
 pub use shapes::forms_by_grammar;

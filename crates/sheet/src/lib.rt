@@ -1,18 +1,14 @@
-// Reading sheets: the lines of a text, in their order, set a table, a queue, at-lines and a number of ticks; or the
-// text has one fault.
+// Reading sheets. The lines of a text, in their order, set a table of duties, a queue, at-lines and a number of ticks; or else the text
+// has one fault that counts.
 #![tactic(auto)]
 
 mod ats;
 mod drafts;
-mod entering;
 mod faults;
-mod passing;
-mod reading;
-mod replaying;
+mod sheets;
 #[cfg(test)]
 mod tests;
 
 pub use ats::{At, Calls};
-pub use drafts::Sheet;
 pub use faults::{SheetFault, TableFault};
-pub use reading::{read, read_by_rules, sheets_hold};
+pub use sheets::{Sheet, read, read_by_rules, sheets_have_calls};
