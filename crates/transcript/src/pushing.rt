@@ -1,4 +1,4 @@
-// Text that is put into room which is there already, so that none of it can be left out.
+// Text that is put behind a text with room for it: none of these calls can fail.
 ghost use Rattle.std.specs.Prelude.{◌≡◌, ◌+◌, ◌≤◌, ◌++◌, decimal, length, string_bytes, string_capacity, string_len};
 
 use itoa::Buffer;

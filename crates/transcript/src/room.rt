@@ -14,8 +14,8 @@ const MOST_CALLS: usize = 32768 + 10000;
 // The most bytes of a transcript: 96 for each row, of which there are at most 16, and for each call, and 192 for the totals.
 const MOST_BYTES: usize = 96 * (16 + MOST_CALLS) + 192;
 
-// The memory in which one transcript is made, enough for that of any text. It is asked for before any text is known, so that what
-// is printed of a text cannot end for want of memory.
+// The memory in which one transcript is made: an empty script with room for the calls of every sheet, and an empty text with room for
+// every transcript. It is taken before a text is known, and from then on nothing can fail.
 #[derive(Drop)]
 pub struct Room {
     script: Vec<Entry>,
@@ -25,7 +25,7 @@ pub struct Room {
 }
 
 impl Room {
-    // Takes all the memory, or none where there is too little.
+    // Takes all the memory. It fails where there is too little, whatever text comes later.
     pub fn new(heap: Global) -> Result<Room, AllocError> {
         let script = Vec::with_capacity(heap, MOST_CALLS)?;
         let out = String::with_capacity(heap, MOST_BYTES)?;
