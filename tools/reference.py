@@ -1,7 +1,12 @@
 #!/usr/bin/env python3
-"""Reckons what the trial program prints of a sheet: reads the sheet from standard input, writes the transcript
-or the one fault line to standard output. Written straight from the rules of docs/SHEETS.md and of the dispatcher,
-slow and obvious, and independent of the proved code: it is what that code is compared with."""
+"""What the trial program has to print of a sheet, computed straight from the rules:
+
+    tools/reference.py < SHEET
+
+Reads a sheet from standard input and writes its transcript, or the one line of its fault, to standard output. It follows
+docs/SHEETS.md and the rules of the dispatcher, slowly and plainly, and has nothing in common with the proved code, which is
+compared with it."""
+import argparse
 import re
 import sys
 
@@ -282,7 +287,8 @@ class Machine:
         return slack, who
 
 
-def transcript(table, queue, ats, ticks):
+def run(table, queue, ats, ticks):
+    """The transcript of a sheet that has no fault."""
     out = ["(duty %d response %d)\n" % (row, response(table, row)) for row in range(len(table))]
     machine, accepted, served, withdrawn = Machine(table, queue), 0, 0, 0
     for clock in range(ticks):
@@ -303,12 +309,18 @@ def transcript(table, queue, ats, ticks):
     return "".join(out)
 
 
-def reckon(text):
+def transcript(text):
+    """What is printed of a text, given in bytes: the transcript of the sheet that it is, or the line of its fault."""
     try:
-        return transcript(*read_sheet(text))
+        return run(*read_sheet(text))
     except Fault as fault:
         return str(fault)
 
 
+def main():
+    argparse.ArgumentParser(description=__doc__, formatter_class=argparse.RawDescriptionHelpFormatter).parse_args()
+    sys.stdout.write(transcript(sys.stdin.buffer.read(LONGEST + 1)))
+
+
 if __name__ == "__main__":
-    sys.stdout.write(reckon(sys.stdin.buffer.read(LONGEST + 1)))
+    main()
