@@ -1,4 +1,4 @@
-mod Becoming
-mod Moves
+pub mod Order
 pub mod Places
-pub mod Sorting
+mod Rotations
+mod Slots

@@ -1,4 +1,5 @@
-// One ordered list, for every kind of entry that has a rank.
+// One ordered list, for every kind of entry that has a rank. It keeps its entries in slots that it is handed, so that it needs no
+// memory of its own.
 #![tactic(auto)]
 
 mod numbered;

@@ -1,12 +1,12 @@
--- The slots of a line after a unit was spent, and without the errand of a number.
+-- The slots of a list after a unit was spent, and without the errand of a number.
 use Rattle.std.proofs.Common.{ℕ, ◌-◌, cond, eqb, leb, List, [], ◌∷◌, Some, None, Option}
 use Rattle.queue.specs.Slots.{with_units}
 use Rattle.queue.specs.declared.slots.Slot.{Slot}
 
 -- After a unit was spent on the first: it has one less, or is gone where that was its last.
-abbrev pub spent : List Slot → List Slot
-spent [] = []
-spent (s ∷ ss) = cond (leb s.errand.units 1) ss (with_units s (s.errand.units - 1) ∷ ss)
+abbrev pub first_spent : List Slot → List Slot
+first_spent [] = []
+first_spent (s ∷ ss) = cond (leb s.errand.units 1) ss (with_units s (s.errand.units - 1) ∷ ss)
 
 -- The slots without the first of a number.
 abbrev pub without : ℕ → List Slot → List Slot
@@ -14,11 +14,11 @@ without n [] = []
 without n (s ∷ ss) = cond (eqb s.errand.number n) ss (s ∷ without n ss)
 
 -- The slot of the number n is gone.
-abbrev pub gone_slot : ℕ → Slot → Option Slot
-gone_slot n s = cond (eqb s.errand.number n) None (Some s)
+abbrev pub taken_slot : ℕ → Slot → Option Slot
+taken_slot n s = cond (eqb s.errand.number n) None (Some s)
 
 -- The slot of the number n has one unit less, and is gone where that was its last.
-abbrev pub worked_slot : ℕ → Slot → Option Slot
-worked_slot n s =
+abbrev pub spent_slot : ℕ → Slot → Option Slot
+spent_slot n s =
     cond (eqb s.errand.number n)
     (cond (leb s.errand.units 1) None (Some (with_units s (s.errand.units - 1)))) (Some s)

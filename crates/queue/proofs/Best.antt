@@ -6,9 +6,9 @@ use Rattle.std.proofs.lemmas.Bool.{and_from, and_parts, both_ways, cases_Bool, c
 use Rattle.model.specs.Histories.{Event, History, was_put, was_spent, was_taken}
 use Rattle.model.specs.Queues.{one_less}
 use Rattle.model.specs.declared.errands.Errand.{Errand}
-use Rattle.queue.specs.Arrivals.{Arrival, Rated, after, after_all, arrived, best_from, best_of, better, by_worth, gone, rated, worked}
+use Rattle.queue.specs.Arrivals.{Arrival, Rated, after, after_all, arrived, best_from, best_of, better, by_worth, taken, rated, spent}
 use Rattle.queue.specs.Best.{Best, BestWorthIsBest, puts_some}
-use Rattle.queue.specs.Ranks.{rates_chain}
+use Rattle.queue.specs.Ranks.{no_more_worth_transitive}
 
 all_join : {A : Type 0} (p : A → Bool) (xs ys : List A) → list_all p xs ≡ true → list_all p ys ≡ true → list_all p (xs ++ ys) ≡ true
 all_join p [] ys h k = k
@@ -19,20 +19,20 @@ abbrev some_units : Rated → Bool
 some_units a = leb 1 a.units
 
 -- What is not better than x, which is not better than b, is not better than b.
-better_chain : (a x b : Rated) → some_units x ≡ true → better a x ≡ false → better x b ≡ false → better a b ≡ false
-better_chain a x b some h k =
+better_negatively_transitive : (a x b : Rated) → some_units x ≡ true → better a x ≡ false → better x b ≡ false → better a b ≡ false
+better_negatively_transitive a x b some h k =
     let most : 1 ≤ x.units = leb-true _ _ some in
     le-ltb _ _
-    (rates_chain a.worth a.units x.worth x.units b.worth b.units (omega arith)
+    (no_more_worth_transitive a.worth a.units x.worth x.units b.worth b.units (omega arith)
     (ltb-false _ _ h) (ltb-false _ _ k))
 
-better_one_way : (a b : Rated) → better a b ≡ true → better b a ≡ false
-better_one_way a b h = le-ltb _ _ (le_of_lt (ltb-true _ _ h))
+better_asymmetric : (a b : Rated) → better a b ≡ true → better b a ≡ false
+better_asymmetric a b h = le-ltb _ _ (le_of_lt (ltb-true _ _ h))
 
 -- What is better than b is better than each that b is better than, and than each that is not better than b.
 better_behind : (a b x : Rated) → some_units x ≡ true → better a b ≡ true → better x b ≡ false → better a x ≡ true
 better_behind a b x some h k =
-    ⊎_elim (λ t. t) (λ f. absurd (both_ways (better a b) (better_chain a x b some f k) h)) (cases_Bool (better a x))
+    ⊎_elim (λ t. t) (λ f. absurd (both_ways (better a b) (better_negatively_transitive a x b some f k) h)) (cases_Bool (better a x))
 
 beats_beaten : (a b : Rated) → better a b ≡ true → (xs : List Rated) → list_all some_units xs ≡ true →
     list_all (better b) xs ≡ true → list_all (better a) xs ≡ true
@@ -40,7 +40,7 @@ beats_beaten a b h [] some k = refl
 beats_beaten a b h (x ∷ xs) some k =
     let p = and_parts _ _ some in
     let q = and_parts _ _ k in
-    and_from _ _ (better_behind a b x p.0 h (better_one_way b x q.0)) (beats_beaten a b h xs p.1 q.1)
+    and_from _ _ (better_behind a b x p.0 h (better_asymmetric b x q.0)) (beats_beaten a b h xs p.1 q.1)
 
 beats_no_better : (a b : Rated) → better a b ≡ true → (xs : List Rated) → list_all some_units xs ≡ true →
     list_all (λ x. not (better x b)) xs ≡ true → list_all (better a) xs ≡ true
@@ -55,17 +55,17 @@ best_so_far : (earlier : List Rated) (b : Rated) (later rest : List Rated)
     → list_all some_units earlier ≡ true → some_units b ≡ true → list_all some_units later ≡ true → list_all some_units rest ≡ true
     → list_all (better b) earlier ≡ true → list_all (λ a. not (better a b)) later ≡ true
     → Best ((earlier ++ b ∷ later) ++ rest) (best_from b rest).errand.number
-best_so_far earlier b later [] some-earlier some-b some-later some-rest beats unbeaten =
+best_so_far earlier b later [] some-earlier some-b some-later some-rest better_than_earlier none_later_better =
     record {
       earlier = earlier;
       best = b;
       later = later;
-      stands = append-nil (earlier ++ b ∷ later);
+      parts = append-nil (earlier ++ b ∷ later);
       number = refl;
-      beats_earlier = beats;
-      unbeaten = unbeaten;
+      better_than_earlier = better_than_earlier;
+      none_later_better = none_later_better;
     }
-best_so_far earlier b later (a ∷ rest) some-earlier some-b some-later some-rest beats unbeaten =
+best_so_far earlier b later (a ∷ rest) some-earlier some-b some-later some-rest better_than_earlier none_later_better =
     let so_far = earlier ++ b ∷ later in
     let p = and_parts _ _ some-rest in
     cond_both (better a b) a b (λ x. Best (so_far ++ a ∷ rest) (best_from x rest).errand.number)
@@ -73,14 +73,14 @@ best_so_far earlier b later (a ∷ rest) some-earlier some-b some-later some-res
     subst (λ xs. Best xs (best_from a rest).errand.number) (append_assoc so_far (a ∷ []) rest)
     (best_so_far so_far a [] rest
     (all_join some_units earlier (b ∷ later) some-earlier (and_from _ _ some-b some-later)) p.0 refl p.1
-    (all_join (better a) earlier (b ∷ later) (beats_beaten a b t earlier some-earlier beats)
-    (and_from _ _ t (beats_no_better a b t later some-later unbeaten))) refl))
+    (all_join (better a) earlier (b ∷ later) (beats_beaten a b t earlier some-earlier better_than_earlier)
+    (and_from _ _ t (beats_no_better a b t later some-later none_later_better))) refl))
     (λ f.
     subst (λ xs. Best xs (best_from b rest).errand.number)
     (ap (λ xs. xs ++ rest) (sym (append_assoc earlier (b ∷ later) (a ∷ []))) ∙ append_assoc so_far (a ∷ []) rest)
     (best_so_far earlier b (later ++ a ∷ []) rest some-earlier some-b
-    (all_join some_units later (a ∷ []) some-later (and_from _ _ p.0 refl)) p.1 beats
-    (all_join (λ x. not (better x b)) later (a ∷ []) unbeaten (and_from _ _ (not_from_false _ f) refl))))
+    (all_join some_units later (a ∷ []) some-later (and_from _ _ p.0 refl)) p.1 better_than_earlier
+    (all_join (λ x. not (better x b)) later (a ∷ []) none_later_better (and_from _ _ (not_from_false _ f) refl))))
 
 best_of_is_best : (came : List Rated) (n : ℕ) → list_all some_units came ≡ true → best_of came ≡ Some n → Best came n
 best_of_is_best [] n some is = cc
@@ -106,14 +106,14 @@ turned_some turn keeps (a ∷ came) some =
     ])
     refl
 
-gone_keeps_put : (n : ℕ) (a b : Arrival) → gone n a ≡ Some b → b.put ≡ a.put
-gone_keeps_put n a b =
+taken_keeps_put : (n : ℕ) (a b : Arrival) → taken n a ≡ Some b → b.put ≡ a.put
+taken_keeps_put n a b =
     cond_both (eqb a.waits.number n) None (Some a) (λ o. o ≡ Some b → b.put ≡ a.put)
     (λ _ e. cc)
     (λ _ e. let same : a ≡ b = cc in ap (λ x. x.put) (sym same))
 
-worked_keeps_put : (n : ℕ) (a b : Arrival) → worked n a ≡ Some b → b.put ≡ a.put
-worked_keeps_put n a b =
+spent_keeps_put : (n : ℕ) (a b : Arrival) → spent n a ≡ Some b → b.put ≡ a.put
+spent_keeps_put n a b =
     let waits-as : Errand → Arrival = λ e. record { put = a.put; waits = e } in
     let P : Option Arrival → Type 0 = λ o. o ≡ Some b → b.put ≡ a.put in
     cond_both (eqb a.waits.number n) (option_map waits-as (one_less a.waits)) (Some a) P
@@ -127,8 +127,8 @@ after_some : (came : List Arrival) (x : Event) → puts_some x ≡ true → list
     list_all put_some (after came x) ≡ true
 after_some came (was_put e) h some =
     all_join put_some came (record { put = e; waits = e } ∷ []) some (and_from _ _ h refl)
-after_some came (was_spent n) h some = turned_some (worked n) (worked_keeps_put n) came some
-after_some came (was_taken n) h some = turned_some (gone n) (gone_keeps_put n) came some
+after_some came (was_spent n) h some = turned_some (spent n) (spent_keeps_put n) came some
+after_some came (was_taken n) h some = turned_some (taken n) (taken_keeps_put n) came some
 
 after_all_some : (came : List Arrival) (past : History) → list_all puts_some past ≡ true → list_all put_some came ≡ true →
     list_all put_some (after_all came past) ≡ true

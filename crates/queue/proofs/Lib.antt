@@ -1,17 +1,17 @@
 mod After
-mod Answering
-mod Arising
+mod Arises
 mod Best
-mod Calling
-mod Changing
+mod Calls
 pub mod Earliest
-mod Joining
-pub mod Leaving
+pub mod Left
 mod Lookups
+mod LookupsAfter
 mod Meanings
-pub mod Naming
+pub mod Named
+mod NextSteps
+mod PlacedAll
+pub mod QueueAfter
+mod RefusalCodes
 mod Scripts
-pub mod Standing
-mod Telling
 mod Turned
 mod Waiting

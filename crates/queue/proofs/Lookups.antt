@@ -7,7 +7,7 @@ use Rattle.std.proofs.lemmas.List.Folds.{find_at}
 use Rattle.std.proofs.lemmas.Bool.{and_from, and_parts, not-true, not_from_false, cond-false, cond-true, cond_both, eqb-true, cases_Bool}
 use Rattle.model.specs.Queues.{look, distinct, errand_within}
 use Rattle.model.specs.declared.errands.Errand.{Errand}
-use Rattle.queue.specs.Lines.{errands, numbered, place_of}
+use Rattle.queue.specs.Lists.{errands, numbered, place_of}
 use Rattle.queue.specs.declared.slots.Slot.{Slot}
 
 pub none_from_test : {X : Type 0} (o : Option X) → is_some o ≡ false → o ≡ None

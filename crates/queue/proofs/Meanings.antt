@@ -7,12 +7,12 @@ use Rattle.model.specs.declared.errands.Errand.{Errand}
 use Rattle.list.specs.Held.{held, Becomes}
 use Rattle.list.specs.Order.{placed}
 use Rattle.list.specs.declared.ordered.OrderedList.{OrderedList}
-use Rattle.queue.specs.Lines.{errands, line_meaning, line_sound}
+use Rattle.queue.specs.Lists.{errands, list_meaning, list_sound}
 use Rattle.queue.specs.Ranks.{ranks}
 use Rattle.queue.specs.Slots.{with_units}
 use Rattle.queue.specs.declared.slots.Slot.{Slot}
 use Rattle.queue.proofs.Lookups.{first_once, once_more}
-use Rattle.queue.proofs.Changing.{placed_once, look_placed_same, look_placed_other, removed_once, look_removed_same, look_removed_other, look_first, none_past}
+use Rattle.queue.proofs.LookupsAfter.{placed_once, look_placed_same, look_placed_other, removed_once, look_removed_same, look_removed_other, look_first, none_past}
 
 -- Which number refuses a put.
 pub refused_waits : (m : Meaning) (e : Errand) → errand_within e ≡ true → is_some (look m.waiting e.number) ≡ true →
@@ -32,14 +32,14 @@ refused_not m e h k room =
 -- A slot was lined up.
 pub placed_changes : {R : _} (l m : OrderedList Slot R) (s : Slot) (rest : List Slot) → errand_within s.errand ≡ true →
     look (errands (held l)) s.errand.number ≡ None → distinct (errands (held l)) ≡ true →
-    Becomes l (placed ranks s (held l)) rest m → Changes (line_meaning l) s.errand.number (Some s.errand) (line_meaning m)
+    Becomes l (placed ranks s (held l)) rest m → Changes (list_meaning l) s.errand.number (Some s.errand) (list_meaning m)
 placed_changes l m s rest within none once done =
     let after = ap errands done.holds in
     record {
       here = ap (λ es. look es s.errand.number) after ∙ look_placed_same ranks s (held l) none;
       others = λ k apart. ap (λ es. look es k) after ∙ look_placed_other ranks s (held l) k apart;
-      places_stay = done.places_stay;
-      sound = line_sound m (ap distinct after ∙ placed_once ranks s (held l) within none once);
+      places_stay = done.capacity_stays;
+      sound = list_sound m (ap distinct after ∙ placed_once ranks s (held l) within none once);
     }
 
 errands_removed : (xs : List Slot) (i : ℕ) → errands (remove xs i) ≡ remove (errands xs) i
@@ -51,21 +51,21 @@ errands_removed (x ∷ xs) (suc i) = ap (λ es. x.errand ∷ es) (errands_remove
 -- A slot was dropped.
 pub removed_changes : {R : _} (l m : OrderedList Slot R) (i : ℕ) (e : Errand) (rest : List Slot) → slice_get (errands (held l)) i ≡ Some e →
     distinct (errands (held l)) ≡ true → Becomes l (remove (held l) i) rest m →
-    Changes (line_meaning l) e.number None (line_meaning m)
+    Changes (list_meaning l) e.number None (list_meaning m)
 removed_changes l m i e rest at once done =
     let after : errands (held m) ≡ remove (errands (held l)) i = ap errands done.holds ∙ errands_removed (held l) i in
     record {
       here = ap (λ es. look es e.number) after ∙ look_removed_same (errands (held l)) i e at once;
       others = λ k apart. ap (λ es. look es k) after ∙ look_removed_other (errands (held l)) i e k at apart;
-      places_stay = done.places_stay;
-      sound = line_sound m (ap distinct after ∙ removed_once (errands (held l)) i once);
+      places_stay = done.capacity_stays;
+      sound = list_sound m (ap distinct after ∙ removed_once (errands (held l)) i once);
     }
 
 -- The first slot's units changed.
 pub first_changes : {R : _} (l m : OrderedList Slot R) (s : Slot) (ss rest : List Slot) (units : ℕ) → held l ≡ s ∷ ss →
     distinct (errands (held l)) ≡ true → errand_within (with_units s units).errand ≡ true →
     Becomes l (with_units s units ∷ ss) rest m →
-    Changes (line_meaning l) s.errand.number (Some (with_units s units).errand) (line_meaning m)
+    Changes (list_meaning l) s.errand.number (Some (with_units s units).errand) (list_meaning m)
 first_changes l m s ss rest units was once within done =
     let after = ap errands done.holds in
     let before = ap errands was in
@@ -77,8 +77,8 @@ first_changes l m s ss rest units was once within done =
           ap (λ es. look es k) after
           ∙ (none_past e (errands ss) k (λ q. apart (sym q))
           ∙ sym (ap (λ es. look es k) before ∙ none_past s.errand (errands ss) k (λ q. apart (sym q))));
-      places_stay = done.places_stay;
+      places_stay = done.capacity_stays;
       sound =
-          line_sound m
+          list_sound m
           (ap distinct after ∙ once_more e (errands ss) (record { within = within; alone = f.alone; rest = f.rest }));
     }

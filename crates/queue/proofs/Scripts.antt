@@ -11,9 +11,8 @@ use Rattle.model.specs.declared.calls.Answer.TheVariants.{Ticked}
 use Rattle.model.specs.declared.calls.Call.{Call}
 use Rattle.model.specs.declared.calls.Call.TheVariants.{Tick}
 use Rattle.model.specs.declared.calls.Who.TheVariants.{Errand as ForErrand}
-use Rattle.model.specs.declared.duties.Duty.{Duty}
 use Rattle.queue.specs.Scripts.{RunOf}
-use Rattle.queue.proofs.Answering.{Answering, next_of}
+use Rattle.queue.proofs.NextSteps.{AnswersCalls, next_of}
 
 -- One call before the others: if it is a tick that an errand had, that errand is the one that the choice chooses.
 chosen_first : (choice : Choice) (past : History) (call : Call) (answer : Answer) (rest : Trace)
@@ -30,12 +29,12 @@ chosen_first choice past call answer rest one others (x ∷ before) after slack 
     ∙ ap choice (sym (append_assoc past (by_call call answer) (history before)))
     ∙ others before after slack n more
 
-module _ (arises : History → Meaning → Type 0) (choice : Choice) (answering : Answering arises choice) (table : List Duty) where
-  pub script_runs : (past : History) (s : State) → arises past s.queue → (script : List Call) → RunOf table choice past s script
+module _ (arises : History → Meaning → Type 0) (choice : Choice) (answering : AnswersCalls arises choice) where
+  pub script_runs : (past : History) (s : State) → arises past s.queue → (script : List Call) → RunOf choice past s script
   script_runs past s arose [] =
       record { trace = []; end = s; run = stay; chosen = chosen_none choice past; made = refl }
   script_runs past s arose (call ∷ script) =
-      let first = next_of arises choice answering table past s arose call in
+      let first = next_of arises choice answering past s arose call in
       let rest = script_runs (past ++ by_call call first.answer) first.next first.arose script in
       record {
         trace = (call, first.answer) ∷ rest.trace;
@@ -44,7 +43,7 @@ module _ (arises : History → Meaning → Type 0) (choice : Choice) (answering 
         chosen =
             chosen_first choice past call first.answer rest.trace
             (λ slack n tick had.
-            sym (answering.chooses past s.queue arose) ∙ step_named table s call first.answer first.next first.one slack n tick had)
+            sym (answering.chooses past s.queue arose) ∙ step_named s call first.answer first.next first.one slack n tick had)
             rest.chosen;
         made = ap (λ (cs : List Call). call ∷ cs) rest.made;
       }

@@ -6,7 +6,7 @@ use Rattle.std.proofs.lemmas.Bool.{cases_Bool, cases_eq, cond-false, cond-true, 
 use Rattle.std.proofs.lemmas.Bool.Decides.{nat_tests}
 use Rattle.model.specs.Queues.{distinct, errand_within, look, one_less}
 use Rattle.model.specs.declared.errands.Errand.{Errand}
-use Rattle.queue.proofs.Changing.{look_first, none_apart, none_behind, none_past}
+use Rattle.queue.proofs.LookupsAfter.{look_first, none_apart, none_behind, none_past}
 use Rattle.queue.proofs.Lookups.{FirstOnce, first_once, once_more}
 
 -- The errand e' may wait in the place of e: it has its number, and is within its limits.

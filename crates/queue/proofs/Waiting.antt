@@ -5,7 +5,7 @@ use Rattle.std.specs.Option.{option_map}
 use Rattle.model.specs.Histories.{Event, History}
 use Rattle.model.specs.Queues.{one_less}
 use Rattle.model.specs.declared.errands.Errand.{Errand}
-use Rattle.queue.specs.Arrivals.{Arrival, after, after_all, gone, worked}
+use Rattle.queue.specs.Arrivals.{Arrival, after, after_all, taken, spent}
 use Rattle.queue.proofs.Turned.{turned}
 
 -- The errands that wait, in order of arrival.
@@ -32,14 +32,14 @@ waiting_turned turn turn' same (a ∷ came) =
     front None = refl
     front (Some b) = refl
 
-pub gone_waits : (n : ℕ) (a : Arrival) → option_map (λ (b : Arrival). b.waits) (gone n a) ≡ turned (λ _. None) n a.waits
-gone_waits n a =
+pub taken_waits : (n : ℕ) (a : Arrival) → option_map (λ (b : Arrival). b.waits) (taken n a) ≡ turned (λ _. None) n a.waits
+taken_waits n a =
     elim (eqb a.waits.number n)
     as (λ t. option_map (λ (b : Arrival). b.waits) (cond t None (Some a)) ≡ cond t None (Some a.waits))
     [ true ↦ refl | false ↦ refl ]
 
-pub worked_waits : (n : ℕ) (a : Arrival) → option_map (λ (b : Arrival). b.waits) (worked n a) ≡ turned one_less n a.waits
-worked_waits n a =
+pub spent_waits : (n : ℕ) (a : Arrival) → option_map (λ (b : Arrival). b.waits) (spent n a) ≡ turned one_less n a.waits
+spent_waits n a =
     elim (eqb a.waits.number n)
     as (λ t.
     option_map (λ (b : Arrival). b.waits)

@@ -13,19 +13,19 @@ pub record Arrival : Type 0 where
   pub waits : Errand
 
 -- The errand of the number n is gone.
-abbrev pub gone : ℕ → Arrival → Option Arrival
-gone n a = cond (a.waits.number == n) None (Some a)
+abbrev pub taken : ℕ → Arrival → Option Arrival
+taken n a = cond (a.waits.number == n) None (Some a)
 
 -- The errand of the number n has one unit less, and is gone where that was its last.
-abbrev pub worked : ℕ → Arrival → Option Arrival
-worked n a =
+abbrev pub spent : ℕ → Arrival → Option Arrival
+spent n a =
     cond (a.waits.number == n) (option_map (λ e. record { put = a.put; waits = e }) (one_less a.waits)) (Some a)
 
 -- What waits after one event more: what was put arrives last.
 abbrev pub after : List Arrival → Event → List Arrival
 after came (was_put e) = came ++ record { put = e; waits = e } ∷ []
-after came (was_spent n) = filter_map (worked n) came
-after came (was_taken n) = filter_map (gone n) came
+after came (was_spent n) = filter_map (spent n) came
+after came (was_taken n) = filter_map (taken n) came
 
 -- What waits after all that happened, the oldest event first.
 abbrev pub after_all : List Arrival → History → List Arrival

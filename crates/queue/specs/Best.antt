@@ -10,10 +10,10 @@ pub record Best (came : List Rated) (n : ℕ) : Type 0 where
   pub earlier : List Rated
   pub best : Rated
   pub later : List Rated
-  pub stands : came ≡ earlier ++ best ∷ later
+  pub parts : came ≡ earlier ++ best ∷ later
   pub number : best.errand.number ≡ n
-  pub beats_earlier : list_all (better best) earlier ≡ true
-  pub unbeaten : list_all (λ a. not (better a best)) later ≡ true
+  pub better_than_earlier : list_all (better best) earlier ≡ true
+  pub none_later_better : list_all (λ a. not (better a best)) later ≡ true
 
 -- What is put, if anything, has at least one unit.
 abbrev pub puts_some : Event → Bool

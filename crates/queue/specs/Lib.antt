@@ -1,6 +1,6 @@
 pub mod Arrivals
 pub mod Best
-pub mod Lines
+pub mod Lists
 pub mod Orders
 pub mod Ranks
 pub mod Ratings

@@ -1,4 +1,4 @@
--- By which histories the line of a queue can have come about, and that the queue then names the errand of its choice.
+-- By which histories the list of a queue can have come about, and that the queue then names the errand of its choice.
 use Rattle.std.specs.Prelude.{◌≡◌, ℕ, true, false, cond, List, [], ◌∷◌, map, Some, refl}
 use Rattle.std.proofs.Common.{ap, ◌∙◌}
 use Rattle.model.specs.Histories.{History}
@@ -7,7 +7,7 @@ use Rattle.list.specs.Held.{held}
 use Rattle.list.specs.Order.{placed}
 use Rattle.list.specs.declared.ordered.OrderedList.{OrderedList}
 use Rattle.queue.specs.Arrivals.{Rated, arrived, best_from, best_of, best_rated, rated}
-use Rattle.queue.specs.Lines.{errands, first_number, line_meaning}
+use Rattle.queue.specs.Lists.{errands, first_number, list_meaning}
 use Rattle.queue.specs.Ranks.{ranks}
 use Rattle.queue.specs.declared.slots.Slot.{Slot}
 
@@ -15,38 +15,38 @@ use Rattle.queue.specs.declared.slots.Slot.{Slot}
 abbrev pub rated_in : Slot → Rated
 rated_in s = record { errand = s.errand; worth = s.rating.worth; units = s.rating.units }
 
--- Slots in order of arrival, joining a line one by one, each before the first that it outrates.
-abbrev pub joining : List Slot → List Slot → List Slot
-joining line [] = line
-joining line (s ∷ ss) = joining (placed ranks s line) ss
+-- Slots in order of arrival, joining a list one by one, each before the first that it outrates.
+abbrev pub placed_all : List Slot → List Slot → List Slot
+placed_all list [] = list
+placed_all list (s ∷ ss) = placed_all (placed ranks s list) ss
 
--- After a history a line can hold the slots of those that arrived, rated by a worth for so many units as a rule reckons both,
+-- After a history a list can hold the slots of those that arrived, rated by a worth for so many units as a rule reckons both,
 -- had they joined it in order of arrival.
-pub record Arises (worth units : Errand → ℕ) (past : History) (line : List Slot) : Type 0 where
+pub record Arises (worth units : Errand → ℕ) (past : History) (list : List Slot) : Type 0 where
   pub came : List Slot
-  pub stands : line ≡ joining [] came
+  pub by_rank : list ≡ placed_all [] came
   pub arrivals : map rated_in came ≡ map (rated worth units) (arrived past)
 
--- A line came about by some history.
+-- A list came about by some history.
 abbrev pub Arose : (worth units : Errand → ℕ) → List Slot → Type 0
-Arose worth units line = ∥ ((past : History) × Arises worth units past line) ∥₁
+Arose worth units list = ∥ ((past : History) × Arises worth units past list) ∥₁
 
--- The first of a line that b leads is the best of b and of those that join.
-first_joining : (b : Slot) (line came : List Slot) →
-    first_number (errands (joining (b ∷ line) came)) ≡ Some (best_from (rated_in b) (map rated_in came)).errand.number
-first_joining b line [] = refl
-first_joining b line (s ∷ came) =
+-- The first of a list that b leads is the best of b and of those that join.
+first_placed_all : (b : Slot) (list came : List Slot) →
+    first_number (errands (placed_all (b ∷ list) came)) ≡ Some (best_from (rated_in b) (map rated_in came)).errand.number
+first_placed_all b list [] = refl
+first_placed_all b list (s ∷ came) =
     elim (ranks s b)
     as (λ t.
-    first_number (errands (joining (cond t (s ∷ b ∷ line) (b ∷ placed ranks s line)) came))
+    first_number (errands (placed_all (cond t (s ∷ b ∷ list) (b ∷ placed ranks s list)) came))
     ≡ Some (best_from (cond t (rated_in s) (rated_in b)) (map rated_in came)).errand.number)
-    [ true ↦ first_joining s (b ∷ line) came | false ↦ first_joining b (placed ranks s line) came ]
+    [ true ↦ first_placed_all s (b ∷ list) came | false ↦ first_placed_all b (placed ranks s list) came ]
 
-first_is_best : (came : List Slot) → first_number (errands (joining [] came)) ≡ best_of (map rated_in came)
+first_is_best : (came : List Slot) → first_number (errands (placed_all [] came)) ≡ best_of (map rated_in came)
 first_is_best [] = refl
-first_is_best (s ∷ came) = first_joining s [] came
+first_is_best (s ∷ came) = first_placed_all s [] came
 
-pub line_chooses : {R : _} (worth units : Errand → ℕ) (past : History) (l : OrderedList Slot R) →
-    Arises worth units past (held l) → (line_meaning l).named ≡ best_rated worth units past
-line_chooses worth units past l arose =
-    ap (λ ss. first_number (errands ss)) arose.stands ∙ first_is_best arose.came ∙ ap best_of arose.arrivals
+pub list_chooses : {R : _} (worth units : Errand → ℕ) (past : History) (l : OrderedList Slot R) →
+    Arises worth units past (held l) → (list_meaning l).named ≡ best_rated worth units past
+list_chooses worth units past l arose =
+    ap (λ ss. first_number (errands ss)) arose.by_rank ∙ first_is_best arose.came ∙ ap best_of arose.arrivals

@@ -3,21 +3,21 @@ use Rattle.std.specs.Prelude.{◌≡◌, ℕ, ◌≤◌, true, false, ◌&&◌, 
 use Rattle.std.proofs.Common.{leb-true}
 use Rattle.std.proofs.lemmas.Bool.{and_parts}
 use Rattle.model.specs.Queues.{errand_within}
-use Rattle.model.specs.Refusals.{told}
+use Rattle.model.specs.Refusals.{refusal_code}
 use Rattle.model.specs.declared.errands.Errand.{Errand}
 use Rattle.model.specs.declared.refusals.Refusal.{Refusal}
 use Rattle.queue.specs.declared.slots.Slot.{Slot}
 
 -- The slot of an errand, rated by a worth for so many units.
-pub record Holds (e : Errand) (worth units : ℕ) (s : Slot) : Type 0 where
+pub record HoldsErrand (e : Errand) (worth units : ℕ) (s : Slot) : Type 0 where
   pub errand : s.errand ≡ e
   pub worth_put : s.rating.worth ≡ worth
   pub units_put : s.rating.units ≡ units
 
 -- A slot is made, or refused 8 where the errand breaks its limits.
 abbrev pub Made : Errand → ℕ → ℕ → Result Slot Refusal → Type 0
-Made e worth units (Ok s) = (errand_within e ≡ true) × Holds e worth units s
-Made e worth units (Err why) = (errand_within e ≡ false) × (told why ≡ 8 ∷ [])
+Made e worth units (Ok s) = (errand_within e ≡ true) × HoldsErrand e worth units s
+Made e worth units (Err why) = (errand_within e ≡ false) × (refusal_code why ≡ 8 ∷ [])
 
 -- The slot with other units left. The rating stays.
 abbrev pub with_units : Slot → ℕ → Slot

@@ -1,10 +1,10 @@
 ghost use Rattle.std.specs.Prelude.{◌≡◌, true, min, [], length, ◌++◌};
 ghost use Rattle.model.specs.Histories.{GoesOn, by_put, by_spend, by_take};
 ghost use Rattle.model.specs.Queues.{distinct, Put, Spend, Take};
-ghost use Rattle.list.specs.Held.{held, free_slots, places};
+ghost use Rattle.list.specs.Held.{held, free_slots, capacity};
 ghost use Rattle.queue.specs.Arrivals.{best_rated};
-ghost use Rattle.queue.specs.Lines.{errands, line_meaning, line_sound, first_number, free_after, place_of};
-ghost use Rattle.queue.specs.Orders.{Arises, Arose, line_chooses};
+ghost use Rattle.queue.specs.Lists.{errands, list_meaning, list_sound, first_number, free_after, place_of};
+ghost use Rattle.queue.specs.Orders.{Arises, Arose, list_chooses};
 ghost use Rattle.queue.specs.Untouched.{Left};
 
 use super::queues::Queue;
@@ -15,15 +15,15 @@ use model::{Errand, Refusal};
 use std::marker::PhantomData;
 
 // A queue that serves first the errand that its rule rates best, and of those rated alike the one put first. Its
-// line stands in the order in which its errands are served.
+// list stands in the order in which its errands are served.
 #[derive(Drop)]
 pub struct ErrandQueue<'a, R: Rule> {
-    line: OrderedList<'a, Slot>,
-    // The slots past its places. The queue keeps them for its contracts: no call writes one of them.
+    list: OrderedList<'a, Slot>,
+    // The slots past its capacity. The queue keeps them for its contracts: no call writes one of them.
     beyond: &'a mut [Slot],
     rule: PhantomData<R>,
-    ghost once: { distinct (errands (held line)) ≡ true },
-    pub ghost arose: { Arose R.worth R.units (held line) },
+    ghost once: { distinct (errands (held list)) ≡ true },
+    pub ghost arose: { Arose R.worth R.units (held list) },
 }
 
 // The queue that serves errands as they come.
@@ -32,8 +32,8 @@ pub type FirstCome<'a> = ErrandQueue<'a, Alike>;
 // The queue that serves the errand with the most worth for its units.
 pub type ByWorth<'a> = ErrandQueue<'a, WorthForUnits>;
 
-// A queue has at most so many places.
-const MOST_PLACES: usize = 1024;
+// A queue has room for at most so many errands.
+const MOST_ERRANDS: usize = 1024;
 
 // The place of the errand of a number, if it waits.
 fn place_of(slots: &[Slot], number: u32) -> Option<usize>
@@ -45,15 +45,15 @@ fn place_of(slots: &[Slot], number: u32) -> Option<usize>
 impl<'a, R: Rule> ErrandQueue<'a, R> {
     // An empty queue over the slots, of which it uses at most the first 1,024.
     pub fn new(slots: &'a mut [Slot]) -> ErrandQueue<'a, R>
-        ensures empty { held result.line ≡ [] }
-        ensures history { Arises R.worth R.units [] (held result.line) }
-        ensures size { places result.line ≡ min (length slots.old) 1024 }
-        ensures slots { result.line.slots.now ++ result.beyond.now ≡ slots.old }
+        ensures empty { held result.list ≡ [] }
+        ensures history { Arises R.worth R.units [] (held result.list) }
+        ensures size { capacity result.list ≡ min (length slots.old) 1024 }
+        ensures slots { result.list.slots.now ++ result.beyond.now ≡ slots.old }
     {
-        let most = MOST_PLACES.min(slots.len());
+        let most = MOST_ERRANDS.min(slots.len());
         let (own, beyond) = slots.split_at_mut(most);
         ErrandQueue {
-            line: OrderedList::new(own),
+            list: OrderedList::new(own),
             beyond,
             rule: PhantomData,
         }
@@ -61,72 +61,72 @@ impl<'a, R: Rule> ErrandQueue<'a, R> {
 }
 
 impl<'a, R: Rule> Queue for ErrandQueue<'a, R> {
-    ghost meaning = { λ q. line_meaning q.line };
+    ghost meaning = { λ q. list_meaning q.list };
 
-    ghost sound = { λ q. line_sound q.line q.once };
+    ghost sound = { λ q. list_sound q.list q.once };
 
-    ghost arises = { λ past q. Arises R.worth R.units past (held q.line) };
+    ghost arises = { λ past q. Arises R.worth R.units past (held q.list) };
 
     ghost choice = { best_rated R.worth R.units };
 
-    ghost chooses = { λ past q arose. line_chooses R.worth R.units past q.line arose };
+    ghost chooses = { λ past q arose. list_chooses R.worth R.units past q.list arose };
 
-    ghost untouched = { λ q r. (r.line ≡ q.line) × (r.beyond ≡ q.beyond) };
+    ghost untouched = { λ q r. (r.list ≡ q.list) × (r.beyond ≡ q.beyond) };
 
     fn put(&mut self, errand: Errand) -> Result<(), Refusal>
-        ensures means { Put (line_meaning self.old.line) errand result (line_meaning self.new.line) }
-        ensures history { GoesOn (Arises R.worth R.units) (held self.old.line) (by_put errand result) (held self.new.line) }
-        ensures untouched { by_put errand result ≡ [] → (self.new.line ≡ self.old.line) × (self.new.beyond ≡ self.old.beyond) }
-        ensures rest { free_slots self.new.line ≡ free_after (held self.old.line) (free_slots self.old.line) (by_put errand result) }
+        ensures means { Put (list_meaning self.old.list) errand result (list_meaning self.new.list) }
+        ensures history { GoesOn (Arises R.worth R.units) (held self.old.list) (by_put errand result) (held self.new.list) }
+        ensures untouched { by_put errand result ≡ [] → (self.new.list ≡ self.old.list) × (self.new.beyond ≡ self.old.beyond) }
+        ensures rest { free_slots self.new.list ≡ free_after (held self.old.list) (free_slots self.old.list) (by_put errand result) }
         ensures beyond { self.new.beyond ≡ self.old.beyond }
     {
         let slot = Slot::rated::<R>(errand)?;
-        if place_of(self.line.entries(), errand.number).is_some() {
+        if place_of(self.list.entries(), errand.number).is_some() {
             return Err(Refusal::AlreadyWaiting);
         }
-        self.line.insert(slot)
+        self.list.insert(slot)
     }
 
     fn name(&self) -> Option<u32>
-        ensures { result ≡ first_number (errands (held self.now.line)) }
+        ensures { result ≡ first_number (errands (held self.now.list)) }
     {
-        self.line.get(0).map(|slot| slot.errand().number)
+        self.list.get(0).map(|slot| slot.errand().number)
     }
 
     // The errand is dropped with its last unit.
     fn spend(&mut self) -> Option<u32>
-        ensures means { Spend (line_meaning self.old.line) result (line_meaning self.new.line) }
-        ensures history { GoesOn (Arises R.worth R.units) (held self.old.line) (by_spend result) (held self.new.line) }
-        ensures untouched { by_spend result ≡ [] → (self.new.line ≡ self.old.line) × (self.new.beyond ≡ self.old.beyond) }
-        ensures rest { free_slots self.new.line ≡ free_after (held self.old.line) (free_slots self.old.line) (by_spend result) }
+        ensures means { Spend (list_meaning self.old.list) result (list_meaning self.new.list) }
+        ensures history { GoesOn (Arises R.worth R.units) (held self.old.list) (by_spend result) (held self.new.list) }
+        ensures untouched { by_spend result ≡ [] → (self.new.list ≡ self.old.list) × (self.new.beyond ≡ self.old.beyond) }
+        ensures rest { free_slots self.new.list ≡ free_after (held self.old.list) (free_slots self.old.list) (by_spend result) }
         ensures beyond { self.new.beyond ≡ self.old.beyond }
     {
-        let slot = *self.line.get(0)?;
+        let slot = *self.list.get(0)?;
         let errand = slot.errand();
         if errand.units <= 1 {
-            self.line.remove(0);
+            self.list.remove(0);
         } else {
-            self.line.replace(0, slot.with_units(errand.units - 1));
+            self.list.replace(0, slot.with_units(errand.units - 1));
         }
         Some(errand.number)
     }
 
     fn take(&mut self, number: u32) -> Result<u32, Refusal>
-        ensures means { Take (line_meaning self.old.line) number result (line_meaning self.new.line) }
-        ensures history { GoesOn (Arises R.worth R.units) (held self.old.line) (by_take number result) (held self.new.line) }
-        ensures untouched { by_take number result ≡ [] → (self.new.line ≡ self.old.line) × (self.new.beyond ≡ self.old.beyond) }
-        ensures rest { free_slots self.new.line ≡ free_after (held self.old.line) (free_slots self.old.line) (by_take number result) }
+        ensures means { Take (list_meaning self.old.list) number result (list_meaning self.new.list) }
+        ensures history { GoesOn (Arises R.worth R.units) (held self.old.list) (by_take number result) (held self.new.list) }
+        ensures untouched { by_take number result ≡ [] → (self.new.list ≡ self.old.list) × (self.new.beyond ≡ self.old.beyond) }
+        ensures rest { free_slots self.new.list ≡ free_after (held self.old.list) (free_slots self.old.list) (by_take number result) }
         ensures beyond { self.new.beyond ≡ self.old.beyond }
     {
-        let place = place_of(self.line.entries(), number).ok_or(Refusal::NotWaiting)?;
-        let units = self.line.entries()[place].errand().units;
-        self.line.remove(place);
+        let place = place_of(self.list.entries(), number).ok_or(Refusal::NotWaiting)?;
+        let units = self.list.entries()[place].errand().units;
+        self.list.remove(place);
         Ok(units)
     }
 }
 
-// After any number of refused calls and of spends that find nothing, one after the other, the line of a queue and every slot
+// After any number of refused calls and of spends that find nothing, one after the other, the list of a queue and every slot
 // handed to it are as they were.
 pub fn left_as_it_was<R: Rule>()
-    ensures { (q r : ErrandQueue R R.Rule) → Left ⟦<ErrandQueue<'static, R> as Queue>⟧.untouched q r → (r.line ≡ q.line) × (r.beyond ≡ q.beyond) }
+    ensures { (q r : ErrandQueue R R.Rule) → Left ⟦<ErrandQueue<'static, R> as Queue>⟧.untouched q r → (r.list ≡ q.list) × (r.beyond ≡ q.beyond) }
 {}

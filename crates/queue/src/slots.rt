@@ -1,7 +1,7 @@
 ghost use Rattle.std.specs.Prelude.{◌≡◌};
 ghost use Rattle.model.specs.Queues.{errand_within};
-ghost use Rattle.queue.specs.Ranks.{ranks, ranks_strict, ranks_chain};
-ghost use Rattle.queue.specs.Slots.{Holds, Made, with_units};
+ghost use Rattle.queue.specs.Ranks.{ranks, ranks_asymmetric, ranks_negatively_transitive};
+ghost use Rattle.queue.specs.Slots.{HoldsErrand, Made, with_units};
 
 use super::ratings::Rating;
 use super::rules::Rule;
@@ -18,9 +18,9 @@ pub struct Slot {
 impl Ranked for Slot {
     ghost before = { ranks };
 
-    ghost strict = { ranks_strict };
+    ghost asymmetric = { ranks_asymmetric };
 
-    ghost chain = { ranks_chain };
+    ghost negatively_transitive = { ranks_negatively_transitive };
 
     fn is_before(&self, other: &Slot) -> bool {
         self.rating.outrates(&other.rating)
@@ -41,7 +41,7 @@ fn within_limits(errand: &Errand) -> bool
 impl Slot {
     // A slot to hand to a queue: no queue reads it before an errand is put there.
     pub fn free() -> Slot
-        ensures { Holds (record { number = 0; units = 1; worth = 0 }) 0 1 result }
+        ensures { HoldsErrand (record { number = 0; units = 1; worth = 0 }) 0 1 result }
     {
         Slot {
             errand: Errand {

@@ -2,7 +2,7 @@
 use Rattle.std.proofs.Common.{◌≡◌, ℕ, ◌≤◌, true, List, [], ◌∷◌, ◌++◌, length, Some, None, Ok, Err, Option, Result, sym, refl, ap, ◌∙◌, subst, arith, length-append}
 use Rattle.std.specs.List.{filter_map}
 use Rattle.std.proofs.lemmas.List.{map_push}
-use Rattle.model.proofs.Found.{some_is}
+use Rattle.model.proofs.Searches.{some_is}
 use Rattle.model.proofs.Histories.{stays_on}
 use Rattle.model.specs.Histories.{Choice, Event, History, by_put, by_spend, by_take, was_put, was_spent, was_taken}
 use Rattle.model.specs.Machine.{fresh}
@@ -13,12 +13,12 @@ use Rattle.model.specs.declared.duties.Duty.{Duty}
 use Rattle.model.specs.declared.errands.Errand.{Errand}
 use Rattle.model.specs.declared.refusals.Refusal.{Refusal}
 use Rattle.model.specs.declared.refusals.Refusal.TheVariants.{NotWaiting}
-use Rattle.queue.specs.Arrivals.{Arrival, after, arrived, gone, worked}
+use Rattle.queue.specs.Arrivals.{Arrival, after, arrived, taken, spent}
 use Rattle.queue.proofs.Scripts.{script_runs}
-use Rattle.queue.proofs.Telling.{put_accepted, put_told}
+use Rattle.queue.proofs.RefusalCodes.{put_accepted, put_refusal_is}
 use Rattle.queue.proofs.Turned.{KeepsNumber, none_keeps, joined_once, less_keeps, look_before, look_joined, look_others, look_turned, no_more, turned, turned_once}
-use Rattle.queue.proofs.Answering.{Answering}
-use Rattle.queue.proofs.Waiting.{after_more, gone_waits, waiting_of, waiting_turned, worked_waits}
+use Rattle.queue.proofs.NextSteps.{AnswersCalls}
+use Rattle.queue.proofs.Waiting.{after_more, taken_waits, waiting_of, waiting_turned, spent_waits}
 use Rattle.queue.specs.Scripts.{RunOf}
 
 -- What a queue of so many places means after a history, if it names the errand of a choice.
@@ -39,21 +39,21 @@ module _ (choice : Choice) (right : NamesRight choice) (places : ℕ) where
   abbrev means : History → Meaning
   means past = queue_after choice places past
 
-  record Stands (past : History) (m : Meaning) : Type 0 where
+  record IsAfter (past : History) (m : Meaning) : Type 0 where
     is : m ≡ means past
     sound : Sound m
 
   sound_after : (past : History) → distinct (means past).waiting ≡ true → length (means past).waiting ≤ places → Sound (means past)
   sound_after past once few = record { each_once = once; few = few; names = right past }
 
-  stands : (past : History) → Sound (means past) → Stands past (means past)
-  stands past sound = record { is = refl; sound = sound }
+  is_after : (past : History) → Sound (means past) → IsAfter past (means past)
+  is_after past sound = record { is = refl; sound = sound }
 
-  stays : (past : History) → Sound (means past) → Stands (past ++ []) (means past)
-  stays past sound = stays_on Stands (means past) (means past) refl past (stands past sound)
+  stays_after : (past : History) → Sound (means past) → IsAfter (past ++ []) (means past)
+  stays_after past sound = stays_on IsAfter (means past) (means past) refl past (is_after past sound)
 
-  stands_empty : Stands [] (means [])
-  stands_empty = stands [] (sound_after [] refl (omega arith))
+  empty_is_after : IsAfter [] (means [])
+  empty_is_after = is_after [] (sound_after [] refl (omega arith))
 
   -- An event that leaves these errands, of which one number alone looks up otherwise, changes that number.
   changed : (past : History) (x : Event) (es : List Errand) (n : ℕ) (found : Option Errand)
@@ -73,7 +73,7 @@ module _ (choice : Choice) (right : NamesRight choice) (places : ℕ) where
       }
 
   put_leaves : (past : History) (e : Errand) (r : Result (Unit {0}) Refusal) → Sound (means past)
-      → put_refusal (means past) e ≡ refusal r → (m' : Meaning) × Put (means past) e r m' × Stands (past ++ by_put e r) m'
+      → put_refusal (means past) e ≡ refusal r → (m' : Meaning) × Put (means past) e r m' × IsAfter (past ++ by_put e r) m'
   put_leaves past e (Ok x) sound told =
       let (within, new, room) = put_accepted (means past) e told in
       let es = (means past).waiting in
@@ -82,8 +82,8 @@ module _ (choice : Choice) (right : NamesRight choice) (places : ℕ) where
       (map_push (λ (a : Arrival). a.waits) (arrived past) (record { put = e; waits = e }))
       (look_joined es e new) (look_before es e) (joined_once es e within new sound.each_once)
       (omega (arith, length-append es (e ∷ []))) in
-      (means (past ++ was_put e ∷ []), (told, change), stands (past ++ was_put e ∷ []) change.sound)
-  put_leaves past e (Err why) sound told = (means past, (told, refl), stays past sound)
+      (means (past ++ was_put e ∷ []), (told, change), is_after (past ++ was_put e ∷ []) change.sound)
+  put_leaves past e (Err why) sound told = (means past, (told, refl), stays_after past sound)
 
   -- So does one that turns the errand of a number.
   turned_leaves : (past : History) (x : Event) (f : Errand → Option Errand) (n : ℕ) (e : Errand) → KeepsNumber f → Sound (means past)
@@ -99,31 +99,31 @@ module _ (choice : Choice) (right : NamesRight choice) (places : ℕ) where
       (omega (arith, no_more (turned f n) es, sound.few))
 
   spend_leaves : (past : History) → Sound (means past) → (o : Option ℕ) → choice past ≡ o
-      → (r : Option ℕ) × (m' : Meaning) × Spend (means past) r m' × Stands (past ++ by_spend r) m'
-  spend_leaves past sound None named = (None, means past, (named, refl), stays past sound)
+      → (r : Option ℕ) × (m' : Meaning) × Spend (means past) r m' × IsAfter (past ++ by_spend r) m'
+  spend_leaves past sound None named = (None, means past, (named, refl), stays_after past sound)
   spend_leaves past sound (Some n) named =
       let (e, found) = named_waits (means past).waiting n (ap (names_right (means past).waiting) (sym named) ∙ right past) in
       let change =
       turned_leaves past (was_spent n) one_less n e less_keeps sound
-      (waiting_turned (worked n) (turned one_less n) (worked_waits n) (arrived past)) found in
-      (Some n, means (past ++ was_spent n ∷ []), (named, (e, found, change)), stands (past ++ was_spent n ∷ []) change.sound)
+      (waiting_turned (spent n) (turned one_less n) (spent_waits n) (arrived past)) found in
+      (Some n, means (past ++ was_spent n ∷ []), (named, (e, found, change)), is_after (past ++ was_spent n ∷ []) change.sound)
 
   take_leaves : (past : History) (n : ℕ) → Sound (means past) → (o : Option Errand) → look (means past).waiting n ≡ o
-      → (r : Result ℕ Refusal) × (m' : Meaning) × Take (means past) n r m' × Stands (past ++ by_take n r) m'
-  take_leaves past n sound None none = (Err NotWaiting, means past, (none, refl, refl), stays past sound)
+      → (r : Result ℕ Refusal) × (m' : Meaning) × Take (means past) n r m' × IsAfter (past ++ by_take n r) m'
+  take_leaves past n sound None none = (Err NotWaiting, means past, (none, refl, refl), stays_after past sound)
   take_leaves past n sound (Some e) found =
       let change =
       turned_leaves past (was_taken n) (λ _. None) n e none_keeps sound
-      (waiting_turned (gone n) (turned (λ _. None) n) (gone_waits n) (arrived past)) found in
-      (Ok e.units, means (past ++ was_taken n ∷ []), (e, found, refl, change), stands (past ++ was_taken n ∷ []) change.sound)
+      (waiting_turned (taken n) (turned (λ _. None) n) (taken_waits n) (arrived past)) found in
+      (Ok e.units, means (past ++ was_taken n ∷ []), (e, found, refl, change), is_after (past ++ was_taken n ∷ []) change.sound)
 
-  answers : Answering Stands choice
+  answers : AnswersCalls IsAfter choice
   answers =
       record {
         sound = λ past m arose. arose.sound;
         chooses = λ past m arose. ap (λ (k : Meaning). k.named) arose.is;
         puts = λ past m e arose.
-            let (r, told) = put_told (means past) e in
+            let (r, told) = put_refusal_is (means past) e in
             let (m', put, arose') = put_leaves past e r (subst Sound arose.is arose.sound) told in
             (r, m', subst (λ (k : Meaning). Put k e r m') (sym arose.is) put, arose');
         spends = λ past m arose.
@@ -136,7 +136,7 @@ module _ (choice : Choice) (right : NamesRight choice) (places : ℕ) where
 
 -- So every script has a run from the fresh state over an empty queue.
 pub script_runs_from_empty : (table : List Duty) (choice : Choice) (places : ℕ) (script : List Call) → NamesRight choice
-    → RunOf table choice [] (fresh table (queue_after choice places [])) script
+    → RunOf choice [] (fresh table (queue_after choice places [])) script
 script_runs_from_empty table choice places script right =
-    script_runs (Stands choice right places) choice (answers choice right places) table []
-    (fresh table (queue_after choice places [])) (stands_empty choice right places) script
+    script_runs (IsAfter choice right places) choice (answers choice right places) []
+    (fresh table (queue_after choice places [])) (empty_is_after choice right places) script

@@ -1,4 +1,4 @@
--- What looks up among the errands of a line after a slot was lined up, dropped or rewritten, and that each errand
+-- What looks up among the errands of a list after a slot was lined up, dropped or rewritten, and that each errand
 -- still waits once.
 use Rattle.std.proofs.Common.{◌≡◌, ℕ, zero, suc, Bool, true, cond, eqb, List, [], ◌∷◌, Some, None, sym, refl, ap, ◌∙◌}
 use Rattle.std.specs.List.{slice_get, remove}
@@ -6,7 +6,7 @@ use Rattle.std.proofs.lemmas.Bool.{cond_both, cond-false, cond-true, eq-eqb, ne_
 use Rattle.model.specs.Queues.{look, distinct, errand_within}
 use Rattle.model.specs.declared.errands.Errand.{Errand}
 use Rattle.list.specs.Order.{placed}
-use Rattle.queue.specs.Lines.{errands}
+use Rattle.queue.specs.Lists.{errands}
 use Rattle.queue.specs.declared.slots.Slot.{Slot}
 use Rattle.queue.proofs.Lookups.{first_once, once_more}
 

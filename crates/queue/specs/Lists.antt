@@ -1,4 +1,4 @@
--- A line is the ordered list of a queue's slots: what it means, and what its free slots hold after each call.
+-- A list is the ordered list of a queue's slots: what it means, and what its free slots hold after each call.
 use Rattle.std.specs.Prelude.{◌≡◌, ℕ, Bool, true, cond, List, [], ◌∷◌, drop, map, position, is_some, Some, None, Option, ◌==◌, nat_le, refl}
 use Rattle.std.specs.List.{cons_option, find}
 use Rattle.std.proofs.Common.{arith, ap, length-take, eq-eqb}
@@ -6,7 +6,7 @@ use Rattle.std.proofs.lemmas.List.{length-map}
 use Rattle.model.specs.Histories.{Event, History, was_put, was_spent, was_taken}
 use Rattle.model.specs.Queues.{Meaning, Sound, look, distinct, names_right}
 use Rattle.model.specs.declared.errands.Errand.{Errand}
-use Rattle.list.specs.Held.{held, places}
+use Rattle.list.specs.Held.{held, capacity}
 use Rattle.list.specs.declared.ordered.OrderedList.{OrderedList}
 use Rattle.queue.specs.declared.slots.Slot.{Slot}
 
@@ -19,11 +19,11 @@ abbrev pub first_number : List Errand → Option ℕ
 first_number [] = None
 first_number (e ∷ es) = Some e.number
 
--- A line means that its errands wait, that the first is named, and that it has as many places as it was handed
+-- A list means that its errands wait, that the first is named, and that it has as many places as it was handed
 -- slots.
-abbrev pub line_meaning : {R : _} → OrderedList Slot R → Meaning
-line_meaning l =
-    record { waiting = errands (held l); named = first_number (errands (held l)); places = places l }
+abbrev pub list_meaning : {R : _} → OrderedList Slot R → Meaning
+list_meaning l =
+    record { waiting = errands (held l); named = first_number (errands (held l)); places = capacity l }
 
 -- The slot holds the errand of a number.
 abbrev pub numbered : ℕ → Slot → Bool
@@ -38,25 +38,25 @@ abbrev pub with_last_unit : Option Slot → Option Slot
 with_last_unit None = None
 with_last_unit (Some s) = cond (nat_le s.errand.units 1) (Some s) None
 
--- The free slots after an event, from those that held errands before it, the line, and those that were free. A put takes the first
+-- The free slots after an event, from those that held errands before it, the list, and those that were free. A put takes the first
 -- free slot. The slot of an errand that is taken, or whose last unit is spent, is the first free slot from then on, as it was.
 abbrev pub freed : List Slot → List Slot → Event → List Slot
-freed line free (was_put e) = drop 1 free
-freed line free (was_spent n) = cons_option (with_last_unit (find (numbered n) line)) free
-freed line free (was_taken n) = cons_option (find (numbered n) line) free
+freed list free (was_put e) = drop 1 free
+freed list free (was_spent n) = cons_option (with_last_unit (find (numbered n) list)) free
+freed list free (was_taken n) = cons_option (find (numbered n) list) free
 
 -- The free slots after a call, from what it added to the history: one event, or none, where they stay as they are.
 abbrev pub free_after : List Slot → List Slot → History → List Slot
-free_after line free [] = free
-free_after line free (x ∷ xs) = freed line free x
+free_after list free [] = free
+free_after list free (x ∷ xs) = freed list free x
 
--- What a line means is sound if no number is in it twice.
+-- What a list means is sound if no number is in it twice.
 first_named : (es : List Errand) → names_right es (first_number es) ≡ true
 first_named [] = refl
 first_named (e ∷ es) = ap (λ b. is_some (cond b (Some e) (look es e.number))) (eq-eqb e.number e.number refl)
 
-pub line_sound : {R : _} (l : OrderedList Slot R) → distinct (errands (held l)) ≡ true → Sound (line_meaning l)
-line_sound l once =
+pub list_sound : {R : _} (l : OrderedList Slot R) → distinct (errands (held l)) ≡ true → Sound (list_meaning l)
+list_sound l once =
     record {
       each_once = once;
       few = omega (arith, length-map (held l) (λ s. s.errand), length-take l.count l.slots.now);

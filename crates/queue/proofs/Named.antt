@@ -5,10 +5,10 @@ use Rattle.std.proofs.ByRecursion.{All-weaker}
 use Rattle.std.proofs.lemmas.Bool.{cond_both}
 use Rattle.model.specs.Queues.{look, names_right}
 use Rattle.model.specs.declared.errands.Errand.{Errand}
-use Rattle.queue.proofs.Standing.{NamesRight}
+use Rattle.queue.proofs.QueueAfter.{NamesRight}
 use Rattle.queue.proofs.Waiting.{waiting_of}
 use Rattle.queue.specs.Arrivals.{Arrival, Rated, arrived, best_from, best_of, best_rated, better, earliest, first_of, rated}
-use Rattle.queue.proofs.Changing.{look_first}
+use Rattle.queue.proofs.LookupsAfter.{look_first}
 
 -- The best of some is one of them.
 best_is_one : (P : Rated → Type 0) (b : Rated) (came : List Rated) → P b → AllByRecursion P came → P (best_from b came)

@@ -1,4 +1,4 @@
--- What the calls on a line make of its meaning.
+-- What the calls on a list make of its meaning.
 use Rattle.std.proofs.Common.{◌≡◌, ℕ, suc, ◌+◌, ◌-◌, ◌<◌, ◌≤◌, Bool, true, false, cond, not, ◌&&◌, eqb, leb, List, [], ◌∷◌, drop, get_or, length, set, is_some, Some, None, Ok, Err, Result, sym, refl, ap, ◌∙◌, subst, sub-one, arith, eq-eqb}
 use lib.ListN.{length-map}
 use Rattle.std.specs.List.{cons_option, find, slice_get, remove, position_or_len}
@@ -8,20 +8,20 @@ use Rattle.std.proofs.lemmas.Option.{slice_get-map, slice_get_read}
 use Rattle.std.proofs.lemmas.Bool.{cond-true, cond-false, le-leb, lt-leb, le-ltb, leb-true, not_from_false, and_from, and_parts}
 use Rattle.model.specs.Histories.{by_put, was_spent, was_taken}
 use Rattle.model.specs.Queues.{Put, Spend, Take, Changes, look, distinct, errand_within, one_less}
-use Rattle.model.specs.Refusals.{told}
+use Rattle.model.specs.Refusals.{refusal_code}
 use Rattle.model.specs.declared.errands.Errand.{Errand}
 use Rattle.model.specs.declared.refusals.Refusal.{Refusal}
 use Rattle.model.specs.declared.refusals.Refusal.TheVariants.{NotWaiting}
 use Rattle.list.specs.Held.{held, free_slots, fits, Becomes, Inserts, Removes, Replaces}
 use Rattle.list.specs.Order.{same_rank}
 use Rattle.list.specs.declared.ordered.OrderedList.{OrderedList}
-use Rattle.queue.specs.Lines.{errands, first_number, free_after, line_meaning, numbered, place_of, with_last_unit}
+use Rattle.queue.specs.Lists.{errands, first_number, free_after, list_meaning, numbered, place_of, with_last_unit}
 use Rattle.queue.specs.Ranks.{ranks}
 use Rattle.queue.specs.Slots.{with_units}
 use Rattle.queue.specs.declared.slots.Slot.{Slot}
-use Rattle.queue.proofs.After.{spent, without}
+use Rattle.queue.proofs.After.{first_spent, without}
 use Rattle.queue.proofs.Lookups.{found_at, look_is_found, place_is, waits_somewhere, waits_nowhere, look_number, first_once}
-use Rattle.queue.proofs.Changing.{look_first}
+use Rattle.queue.proofs.LookupsAfter.{look_first}
 use Rattle.queue.proofs.Meanings.{refused_waits, refused_full, refused_not, placed_changes, removed_changes, first_changes}
 
 -- The first slot, if there is one.
@@ -35,27 +35,27 @@ first_found ss s was = ap (find (numbered s.errand.number)) was ∙ cond-true _ 
 
 -- Put
 pub put_waits : {R : _} (X : Type 0) (l : OrderedList Slot R) (e : Errand) (why : Refusal) → errand_within e ≡ true →
-    is_some (place_of e.number (held l)) ≡ true → told why ≡ 9 ∷ [] → Put {X = X} (line_meaning l) e (Err why) (line_meaning l)
+    is_some (place_of e.number (held l)) ≡ true → refusal_code why ≡ 9 ∷ [] → Put {X = X} (list_meaning l) e (Err why) (list_meaning l)
 put_waits X l e why within some number =
     let waits = sym (waits_somewhere e.number (held l)) ∙ some in
-    (refused_waits (line_meaning l) e within waits ∙ sym number, refl)
+    (refused_waits (list_meaning l) e within waits ∙ sym number, refl)
 
 pub put_inserted : {X : Type 0} {R : _} (l m : OrderedList Slot R) (s : Slot) (e : Errand) (r : Result X Refusal) →
     Inserts ranks l s r m → is_some (place_of e.number (held l)) ≡ false → s.errand ≡ e →
-    errand_within e ≡ true → distinct (errands (held l)) ≡ true → Put (line_meaning l) e r (line_meaning m)
+    errand_within e ≡ true → distinct (errands (held l)) ≡ true → Put (list_meaning l) e r (list_meaning m)
 put_inserted l m s e (Ok x) done none is within once =
     let absent : look (errands (held l)) s.errand.number ≡ None =
     ap (λ k. look (errands (held l)) k.number) is ∙ waits_nowhere e.number (held l) none in
     let inside : errand_within s.errand ≡ true = ap errand_within is ∙ within in
-    subst (λ k. Put (line_meaning l) k (Ok x) (line_meaning m)) is (
-      refused_not (line_meaning l) s.errand inside absent (omega (arith, done.0, length-map (held l) (λ s. s.errand))),
+    subst (λ k. Put (list_meaning l) k (Ok x) (list_meaning m)) is (
+      refused_not (list_meaning l) s.errand inside absent (omega (arith, done.0, length-map (held l) (λ s. s.errand))),
       placed_changes l m s _ inside absent once done.1,
     )
 put_inserted l m s e (Err why) done none is within once = (
-  refused_full (line_meaning l) e within (waits_nowhere e.number (held l) none)
+  refused_full (list_meaning l) e within (waits_nowhere e.number (held l) none)
       (omega (arith, done.0, length-map (held l) (λ s. s.errand)))
       ∙ sym done.1,
-  ap line_meaning done.2,
+  ap list_meaning done.2,
 )
 
 pub free_put : {X : Type 0} {R : _} (l m : OrderedList Slot R) (s : Slot) (e : Errand) (r : Result X Refusal) →
@@ -65,15 +65,15 @@ free_put l m s e (Err why) done = ap free_slots done.2
 
 -- Each errand still waits once after a put.
 pub once_put : {X : Type 0} {R : _} (l m : OrderedList Slot R) (e : Errand) (r : Result X Refusal) →
-    Put (line_meaning l) e r (line_meaning m) → distinct (errands (held l)) ≡ true → distinct (errands (held m)) ≡ true
+    Put (list_meaning l) e r (list_meaning m) → distinct (errands (held l)) ≡ true → distinct (errands (held m)) ≡ true
 once_put l m e (Ok x) put once = put.1.sound.each_once
 once_put l m e (Err why) put once = ap (λ k. distinct k.waiting) put.1 ∙ once
 
 -- Spend
--- A unit was spent: what the line means now, which slots it holds, and which are free.
+-- A unit was spent: what the list means now, which slots it holds, and which are free.
 pub record UnitSpent {R : _} (l : OrderedList Slot R) (n : ℕ) (m : OrderedList Slot R) : Type 0 where
-  pub spends : Spend (line_meaning l) (Some n) (line_meaning m)
-  pub slots : held m ≡ spent (held l)
+  pub spends : Spend (list_meaning l) (Some n) (list_meaning m)
+  pub slots : held m ≡ first_spent (held l)
   pub free : free_slots m ≡ free_after (held l) (free_slots l) (was_spent n ∷ [])
 
 pub last_spent : {R : _} (l m : OrderedList Slot R) (s : Slot) (e : Errand) → slice_get (held l) 0 ≡ Some s → e ≡ s.errand →
@@ -90,19 +90,19 @@ last_spent l m s e at is last removed once =
         (
           s.errand,
           ap (λ es. look es s.errand.number) first ∙ look_first s.errand _,
-          subst (λ o. Changes (line_meaning l) s.errand.number o (line_meaning m))
+          subst (λ o. Changes (list_meaning l) s.errand.number o (list_meaning m))
               (sym (cond-true _ _ _ (le-leb _ _ over)))
               (removed_changes l m 0 s.errand _ (ap (λ es. slice_get es 0) first) once done),
         ),
       );
-      slots = done.holds ∙ ap (λ ss. remove ss 0) was ∙ sym (ap spent was ∙ cond-true _ _ _ (le-leb _ _ over));
+      slots = done.holds ∙ ap (λ ss. remove ss 0) was ∙ sym (ap first_spent was ∙ cond-true _ _ _ (le-leb _ _ over));
       free =
           done.free
           ∙ ap (λ o. cons_option o (free_slots l))
           (sym (ap with_last_unit (first_found (held l) s was) ∙ cond-true _ _ _ (le-leb _ _ over)));
     })
 
--- A slot keeps its rank as its units fall, so the line takes the new slot in place of the old.
+-- A slot keeps its rank as its units fall, so the list takes the new slot in place of the old.
 keeps_rank : (s : Slot) (units : ℕ) → same_rank ranks s (with_units s units) ≡ true
 keeps_rank s units =
     let same : ranks s s ≡ false = le-ltb _ _ (omega arith) in
@@ -146,11 +146,11 @@ unit_spent l m s t e took at is units new fit replaced once =
         (
           s.errand,
           ap (λ es. look es s.errand.number) first ∙ look_first s.errand _,
-          subst (λ o. Changes (line_meaning l) s.errand.number o (line_meaning m)) (one_less_is s more)
+          subst (λ o. Changes (list_meaning l) s.errand.number o (list_meaning m)) (one_less_is s more)
               (first_changes l m s (drop 1 (held l)) _ less was once (less_within s more f.within) done),
         ),
       );
-      slots = done.holds ∙ sym (ap spent was ∙ cond-false _ _ _ (lt-leb _ _ more));
+      slots = done.holds ∙ sym (ap first_spent was ∙ cond-false _ _ _ (lt-leb _ _ more));
       free =
           done.free
           ∙ ap (λ o. cons_option o (free_slots l))
@@ -170,9 +170,9 @@ without_place n (s ∷ ss) =
     as (λ b. remove (s ∷ ss) (cond (not b) (1 + position_or_len (numbered n) ss) 0) ≡ cond b ss (s ∷ without n ss))
     [ true ↦ refl | false ↦ rw next (ap (λ xs. s ∷ xs) (without_place n ss)) ]
 
--- An errand was taken: what the line means now, which slots it holds, and which are free.
+-- An errand was taken: what the list means now, which slots it holds, and which are free.
 pub record ErrandTaken {R : _} (l : OrderedList Slot R) (n units : ℕ) (m : OrderedList Slot R) : Type 0 where
-  pub takes : Take (line_meaning l) n (Ok units) (line_meaning m)
+  pub takes : Take (list_meaning l) n (Ok units) (list_meaning m)
   pub slots : held m ≡ without n (held l)
   pub free : free_slots m ≡ free_after (held l) (free_slots l) (was_taken n ∷ [])
 
@@ -186,11 +186,11 @@ errand_taken l m n i s e place read is removed once =
     let found : find (numbered n) (held l) ≡ Some s = found_at n (held l) i place ∙ at in
     let waits : look (errands (held l)) n ≡ Some s.errand = look_is_found n (held l) ∙ ap (option_map (λ x. x.errand)) found in
     record {
-      takes = subst (λ k. Take (line_meaning l) n (Ok k.units) (line_meaning m)) (sym is) (
+      takes = subst (λ k. Take (list_meaning l) n (Ok k.units) (list_meaning m)) (sym is) (
         s.errand,
         waits,
         refl,
-        subst (λ k. Changes (line_meaning l) k None (line_meaning m)) (look_number (errands (held l)) n s.errand waits)
+        subst (λ k. Changes (list_meaning l) k None (list_meaning m)) (look_number (errands (held l)) n s.errand waits)
             (removed_changes l m i s.errand _ (slice_get-map (λ x. x.errand) (held l) i ∙ ap (option_map (λ x. x.errand)) at)
             once done),
       );
@@ -200,9 +200,9 @@ errand_taken l m n i s e place read is removed once =
 
 -- Where the number waits nowhere, nothing changes.
 pub take_missing : {R : _} (l : OrderedList Slot R) (n : ℕ) (r : Result ℕ Refusal) → place_of n (held l) ≡ None →
-    r ≡ Err NotWaiting → Take (line_meaning l) n r (line_meaning l)
+    r ≡ Err NotWaiting → Take (list_meaning l) n r (list_meaning l)
 take_missing l n r none is =
-    subst (λ k. Take (line_meaning l) n k (line_meaning l)) (sym is) (waits_nowhere n (held l) (ap is_some none), refl, refl)
+    subst (λ k. Take (list_meaning l) n k (list_meaning l)) (sym is) (waits_nowhere n (held l) (ap is_some none), refl, refl)
 
 -- Each errand still waits once after one was taken.
 pub once_taken : {R : _} (l m : OrderedList Slot R) (n units : ℕ) → ErrandTaken l n units m → distinct (errands (held m)) ≡ true
