@@ -1,2 +1,1 @@
 pub mod Scripted
-pub mod Turning

@@ -8,15 +8,14 @@ use Rattle.model.specs.declared.calls.Answer.{Answer}
 use Rattle.model.specs.declared.calls.Answer.TheVariants.{Accepted}
 use Rattle.model.specs.declared.calls.Call.{Call}
 use Rattle.model.specs.declared.calls.Call.TheVariants.{Release, Done, Request, Withdraw, Slack, Tick}
-use Rattle.model.specs.declared.duties.Duty.{Duty}
 use Rattle.queue.specs.Untouched.{Leaves, Left, more}
 use Rattle.dispatcher.specs.Left.{LeftAlong, LeftBy}
 use Rattle.dispatcher.specs.Scripts.{call_of, calls_of, event_of, trace_of}
 use Rattle.dispatcher.specs.declared.entries.Entry.{Entry}
 
 -- One step more of a run.
-pub run_more : {table : List Duty} {s s' s'' : State} {trace : Trace} (call : Call) (answer : Answer)
-    → Run table s trace s' → Step table s' call answer s'' → Run table s (trace ++ (call, answer) ∷ []) s''
+pub run_more : {s s' s'' : State} {trace : Trace} (call : Call) (answer : Answer)
+    → Run s trace s' → Step s' call answer s'' → Run s (trace ++ (call, answer) ∷ []) s''
 run_more call answer stay next = step next stay
 run_more call answer (step first rest) next = step first (run_more call answer rest next)
 

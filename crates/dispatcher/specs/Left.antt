@@ -3,18 +3,15 @@ use Rattle.std.specs.Prelude.{◌≡◌, [], ◌∷◌}
 use Rattle.model.specs.Histories.{by_call}
 use Rattle.model.specs.Runs.{Trace}
 use Rattle.model.specs.declared.calls.Call.{Call}
-use Rattle.model.specs.declared.calls.Call.TheVariants.{Release, Done, Request, Withdraw, Slack, Tick}
+use Rattle.model.specs.declared.calls.Call.TheVariants.{Request, Withdraw}
 use Rattle.queue.specs.Untouched.{Leaves}
 
 module _ {Q : Type 0} where
   -- A request and a withdraw pass to the queue, which says itself what it then is; any other call leaves the queue itself.
   abbrev pub LeftBy : (Q → Q → Type 0) → Call → Q → Q → Type 0
-  LeftBy u (Release i) q q' = q' ≡ q
-  LeftBy u (Done i) q q' = q' ≡ q
   LeftBy u (Request e) q q' = u q q'
   LeftBy u (Withdraw n) q q' = u q q'
-  LeftBy u Slack q q' = q' ≡ q
-  LeftBy u Tick q q' = q' ≡ q
+  LeftBy u call q q' = q' ≡ q
 
   -- The queue goes from q to q' call by call, and each call that adds nothing to its history leaves it so.
   abbrev pub LeftAlong : (Q → Q → Type 0) → Q → Trace → Q → Type 0

@@ -1,5 +1,4 @@
-// The calls of a running dispatcher. Each answers and leaves what the machine's step says. That the table stays is a clause of
-// each: it is a fact of two states, and so no invariant of one. A refused call leaves the workload as it was. It leaves the queue as it
+// The calls of a running dispatcher. Each answers and leaves what the machine's step says. A refused call leaves the workload as it was. It leaves the queue as it
 // was too, but for a request and a withdraw: these make one call of the queue, and the queue says itself what its refusal leaves.
 ghost use Rattle.std.specs.Prelude.{◌≡◌, [], OnErr};
 ghost use Rattle.model.specs.Histories.{GoesOn, by_call, by_put, by_take, by_tick};
@@ -8,21 +7,21 @@ ghost use Rattle.model.specs.declared.calls.Answer.TheVariants.{Refused};
 ghost use Rattle.model.specs.declared.refusals.Refusal.{Refusal};
 ghost use Rattle.model.specs.declared.rows.RowCall.TheVariants.{Release, Done};
 ghost use Rattle.table.specs.Settings.{table_of};
+ghost use Rattle.workload.specs.Workloads.{work_in};
 ghost use Rattle.queue.specs.Untouched.{Leaves};
 ghost use Rattle.dispatcher.specs.Left.{LeftBy};
-ghost use Rattle.dispatcher.specs.Views.{answer_of, duties, view};
+ghost use Rattle.dispatcher.specs.Views.{answer_of, view};
 
 use crate::dispatchers::Dispatcher;
 use model::{Answer, Call, Errand, Refusal, Who};
 use queue::Queue;
 use table::Setting;
-use workload::{Turn, Workload};
+use workload::Workload;
 
 impl<Q: Queue> Dispatcher<Q> {
     // Starts a setting over a queue, whatever the queue holds.
     pub fn start(setting: Setting, queue: Q) -> Dispatcher<Q>
         ensures state { view Q.meaning result ≡ fresh (table_of setting) (Q.meaning queue) }
-        ensures table { duties result ≡ table_of setting }
         ensures queue { result.queue ≡ queue }
     {
         Dispatcher {
@@ -33,8 +32,7 @@ impl<Q: Queue> Dispatcher<Q> {
 
     // Releases a job of a row.
     pub fn release(&mut self, row: u32) -> Result<(), Refusal>
-        ensures step { RowCalled (duties self.old) (view Q.meaning self.old) row Release result (view Q.meaning self.new) }
-        ensures table { duties self.new ≡ duties self.old }
+        ensures step { RowCalled (work_in self.old.work) row Release result (work_in self.new.work) }
         ensures queue { self.new.queue ≡ self.old.queue }
         ensures refused { OnErr result (self.new ≡ self.old) }
     {
@@ -43,8 +41,7 @@ impl<Q: Queue> Dispatcher<Q> {
 
     // Ends the job of a row before it has had all its ticks.
     pub fn done(&mut self, row: u32) -> Result<(), Refusal>
-        ensures step { RowCalled (duties self.old) (view Q.meaning self.old) row Done result (view Q.meaning self.new) }
-        ensures table { duties self.new ≡ duties self.old }
+        ensures step { RowCalled (work_in self.old.work) row Done result (work_in self.new.work) }
         ensures queue { self.new.queue ≡ self.old.queue }
         ensures refused { OnErr result (self.new ≡ self.old) }
     {
@@ -54,7 +51,6 @@ impl<Q: Queue> Dispatcher<Q> {
     // Has an errand wait.
     pub fn request(&mut self, errand: Errand) -> Result<(), Refusal>
         ensures step { Requested (view Q.meaning self.old) errand result (view Q.meaning self.new) }
-        ensures table { duties self.new ≡ duties self.old }
         ensures history { GoesOn Q.arises self.old.queue (by_put errand result) self.new.queue }
         ensures work { self.new.work ≡ self.old.work }
         ensures untouched { Leaves Q.untouched self.old.queue (by_put errand result) self.new.queue }
@@ -65,7 +61,6 @@ impl<Q: Queue> Dispatcher<Q> {
     // Drops an errand, and answers the units that it had left.
     pub fn withdraw(&mut self, number: u32) -> Result<u32, Refusal>
         ensures step { Withdraws (view Q.meaning self.old) number result (view Q.meaning self.new) }
-        ensures table { duties self.new ≡ duties self.old }
         ensures history { GoesOn Q.arises self.old.queue (by_take number result) self.new.queue }
         ensures work { self.new.work ≡ self.old.work }
         ensures untouched { Leaves Q.untouched self.old.queue (by_take number result) self.new.queue }
@@ -75,7 +70,7 @@ impl<Q: Queue> Dispatcher<Q> {
 
     // The table's slack.
     pub fn slack(&self) -> u32
-        ensures { result ≡ slack_of (duties self.now) (view Q.meaning self.now) }
+        ensures { result ≡ slack_of (work_in self.now.work) }
     {
         self.work.slack()
     }
@@ -89,8 +84,7 @@ impl<Q: Queue> Dispatcher<Q> {
 
     // One tick: the slack before it, and who had it. Unless an errand had it, the queue stays.
     pub fn tick(&mut self) -> Result<(u32, Who), Refusal>
-        ensures step { Ticks (duties self.old) (view Q.meaning self.old) result (view Q.meaning self.new) }
-        ensures table { duties self.new ≡ duties self.old }
+        ensures step { Ticks (view Q.meaning self.old) result (view Q.meaning self.new) }
         ensures history { GoesOn Q.arises self.old.queue (by_tick (tick_answer result)) self.new.queue }
         ensures queue { by_tick (tick_answer result) ≡ [] → self.new.queue ≡ self.old.queue }
         ensures refused { OnErr result (self.new ≡ self.old) }
@@ -98,17 +92,15 @@ impl<Q: Queue> Dispatcher<Q> {
         let errand_waits = self.errand_waits();
         let (slack, turn) = self.work.tick(errand_waits)?;
         let who = match turn {
-            Turn::Nobody => Who::Nobody,
-            Turn::Duty(row) => Who::Duty(row),
-            Turn::Spare => Who::Errand(self.queue.spend().unwrap()),
+            Some(who) => who,
+            None => Who::Errand(self.queue.spend().unwrap()),
         };
         Ok((slack, who))
     }
 
     // Any of the six calls, with its answer.
     pub fn carry_out(&mut self, call: Call) -> Answer
-        ensures step { Step (duties self.old) (view Q.meaning self.old) call result (view Q.meaning self.new) }
-        ensures table { duties self.new ≡ duties self.old }
+        ensures step { Step (view Q.meaning self.old) call result (view Q.meaning self.new) }
         ensures history { GoesOn Q.arises self.old.queue (by_call call result) self.new.queue }
         ensures untouched { Leaves (LeftBy Q.untouched call) self.old.queue (by_call call result) self.new.queue }
         ensures work { (why : Refusal) → result ≡ Refused why → self.new.work ≡ self.old.work }
@@ -118,8 +110,7 @@ impl<Q: Queue> Dispatcher<Q> {
 
     // The answer to a call, unless it is refused.
     fn accept(&mut self, call: Call) -> Result<Answer, Refusal>
-        ensures step { Step (duties self.old) (view Q.meaning self.old) call (answer_of result) (view Q.meaning self.new) }
-        ensures table { duties self.new ≡ duties self.old }
+        ensures step { Step (view Q.meaning self.old) call (answer_of result) (view Q.meaning self.new) }
         ensures history { GoesOn Q.arises self.old.queue (by_call call (answer_of result)) self.new.queue }
         ensures untouched { Leaves (LeftBy Q.untouched call) self.old.queue (by_call call (answer_of result)) self.new.queue }
         ensures work { (why : Refusal) → answer_of result ≡ Refused why → self.new.work ≡ self.old.work }

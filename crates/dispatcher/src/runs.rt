@@ -1,12 +1,13 @@
 // Whole runs, with the promise that holds of each.
 ghost use Rattle.std.specs.Prelude.{◌≡◌};
 ghost use Rattle.model.specs.Histories.{Chosen, GoesOn, History, history};
+ghost use Rattle.model.specs.Machine.{fresh};
 ghost use Rattle.model.specs.Promise.{Promise};
 ghost use Rattle.table.specs.Settings.{table_of};
 ghost use Rattle.queue.specs.Untouched.{Leaves, Left};
 ghost use Rattle.dispatcher.specs.Left.{LeftAlong};
 ghost use Rattle.dispatcher.specs.Scripts.{calls_of, trace_of};
-ghost use Rattle.dispatcher.specs.Views.{duties, view};
+ghost use Rattle.dispatcher.specs.Views.{view};
 
 use crate::dispatchers::Dispatcher;
 use crate::entries::Entry;
@@ -20,9 +21,8 @@ use table::Setting;
 // adds nothing to this leaves the queue as it was, or as the queue says that a refused request or withdraw leaves it. So a script
 // of such calls alone leaves what as many refusals leave.
 pub fn run<Q: Queue>(setting: Setting, queue: Q, script: &mut [Entry]) -> Dispatcher<Q>
-    ensures promise { Promise (table_of setting) (Q.meaning queue) (trace_of script.new) (view Q.meaning result) }
+    ensures promise { Promise (fresh (table_of setting) (Q.meaning queue)) (trace_of script.new) (view Q.meaning result) }
     ensures calls { calls_of script.new ≡ calls_of script.old }
-    ensures table { duties result ≡ table_of setting }
     ensures history { GoesOn Q.arises queue (history (trace_of script.new)) result.queue }
     ensures untouched { Leaves (Left Q.untouched) queue (history (trace_of script.new)) result.queue }
     ensures left { LeftAlong Q.untouched queue (trace_of script.new) result.queue }

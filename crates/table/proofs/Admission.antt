@@ -2,7 +2,7 @@
 use Rattle.std.proofs.Common.{◌≡◌, ℕ, zero, suc, ◌<◌, ◌≤◌, true, not, List, [], ◌∷◌, ◌++◌, length, take, drop, refl, ap, ◌∙◌, arith}
 use Rattle.std.specs.List.{insert, remove}
 use Rattle.std.proofs.lemmas.Bool.{and_from, and_parts, cond-false, le-ltb, lt-leb}
-use Rattle.model.specs.Table.{add_refusal, after_add, all_within, first_late, unschedulable, within_limits}
+use Rattle.model.specs.Table.{add_refusal, after_add, all_within, first_unschedulable, unschedulable_refusal, within_limits}
 use Rattle.model.specs.declared.duties.Duty.{Duty}
 use Rattle.table.proofs.Limits.{within_take}
 
@@ -13,7 +13,7 @@ module _ (table : List Duty) (place : ℕ) (d : Duty) where
 
   -- Where the place, the duty and the room are good, the analysis decides.
   pub by_analysis : place ≤ length table → within_limits d ≡ true → length table < 16
-      → add_refusal table place d ≡ unschedulable (first_late (insert table place d))
+      → add_refusal table place d ≡ unschedulable_refusal (first_unschedulable (insert table place d))
   by_analysis near good room =
       cond-false _ _ _ (le-ltb _ _ near) ∙ cond-false _ _ _ (ap not good) ∙ cond-false _ _ _ (lt-leb _ _ room)
 

@@ -1,6 +1,6 @@
 -- What a setting holds.
 use Rattle.std.specs.Prelude.{◌≡◌, ℕ, ◌≤◌, List, [], ◌∷◌, length, Some, Ok, Err, Result}
-use Rattle.model.specs.Refusals.{told}
+use Rattle.model.specs.Refusals.{refusal_code}
 use Rattle.model.specs.Table.{response}
 use Rattle.model.specs.declared.duties.Duty.{Duty}
 use Rattle.model.specs.declared.refusals.Refusal.{Refusal}
@@ -13,4 +13,4 @@ table_of s = s.duties.items
 -- The response time of a row: the defined one, or 1 where there is no such row.
 abbrev pub Responds : List Duty → ℕ → Result ℕ Refusal → Type 0
 Responds table row (Ok w) = response table row ≡ Some w
-Responds table row (Err why) = (length table ≤ row) × (told why ≡ 1 ∷ [])
+Responds table row (Err why) = (length table ≤ row) × (refusal_code why ≡ 1 ∷ [])

@@ -55,7 +55,7 @@ impl Setting {
         let grown = Analysis {
             duties: &self.duties,
         };
-        if let Some(row) = grown.first_late() {
+        if let Some(row) = grown.first_unschedulable() {
             self.duties.remove(place);
             return Err(Refusal::Unschedulable(row));
         }

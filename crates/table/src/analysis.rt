@@ -1,6 +1,6 @@
 // Response-time analysis of a table whose duties are within their limits.
 ghost use Rattle.std.specs.Prelude.{◌≡◌, ◌<◌, ◌≤◌, true, length};
-ghost use Rattle.model.specs.Table.{busy, response, first_late, all_within, suffices};
+ghost use Rattle.model.specs.Table.{busy, response, first_unschedulable, all_within, suffices};
 
 use model::Duty;
 
@@ -45,8 +45,8 @@ impl Analysis<'_> {
     }
 
     // The smallest row that has no response time.
-    pub fn first_late(&self) -> Option<u32>
-        ensures { result ≡ first_late self.now.duties.now }
+    pub fn first_unschedulable(&self) -> Option<u32>
+        ensures { result ≡ first_unschedulable self.now.duties.now }
     {
         (0..self.duties.len() as u32).find(|&row| self.response_time(row as usize).is_none())
     }

@@ -3,11 +3,13 @@
 use Rattle.std.proofs.Common.{◌≡◌, ℕ, zero, suc, ◌+◌, ◌-◌, ◌*◌, ◌<◌, ◌≤◌, true, List, [], ◌∷◌, length, get_or, take, refl, ap, subst, arith}
 use Rattle.std.proofs.lemmas.Bool.{and_from, le-leb}
 use Rattle.model.proofs.Admitted.{Limits, admitted_limits, admitted_says, limits_of, within_at}
-use Rattle.model.proofs.Timely.{kept_before_due}
-use Rattle.model.proofs.Keeping.{RowNumbers, kept_gives, row_kept_from, row_kept_gives}
-use Rattle.model.specs.Kept.{kept, row_kept}
-use Rattle.model.specs.Reckoning.{demand, left_of, need, next_release, row_at, window_end}
-use Rattle.model.specs.Table.{admitted, ceil, duty_at, within_limits}
+use Rattle.model.proofs.Invariant.{RowNumbers, kept_gives, row_kept_from, row_kept_gives}
+use Rattle.model.proofs.Kept.{kept_before_due}
+use Rattle.model.specs.Demand.{demand, left_of, need, next_release, row_at}
+use Rattle.model.specs.Kept.{Keeps, row_kept}
+use Rattle.model.specs.Machine.{Work}
+use Rattle.model.specs.Slack.{window_end}
+use Rattle.model.specs.Table.{ceil, duty_at, within_limits}
 use Rattle.model.specs.declared.duties.Duty.{Duty}
 use Rattle.model.specs.declared.rows.Row.{Row}
 use Rattle.model.specs.declared.rows.Row.TheVariants.{Idle, Ready}
@@ -22,28 +24,26 @@ pub record RowAhead (clock : ℕ) (duty : Duty) (row : Row) : Type 0 where
   pub release_ahead : clock ≤ next_release (clock + 1) row
   pub window_ahead : clock ≤ window_end (clock + 1) duty row
 
-module _ (clock : ℕ) (table : List Duty) (rows : List Row) (ok : admitted table ≡ true) (keeps : kept clock table rows ≡ true) where
-  release_lies : (i : ℕ) (row : Row) → i < length table → row_at rows i ≡ row → clock ≤ next_release (clock + 1) row
-  release_lies i (Idle e) lt at = omega arith
-  release_lies i (Ready c d e) lt at =
-      let keeping = kept_gives clock table rows keeps in
-      let due = kept_before_due clock table rows keeps i c d e at in
-      let apart : RowNumbers clock (duty_at table i) (Ready c d e) =
-      subst (λ (r : Row). RowNumbers clock (duty_at table i) r) at (keeping.numbers.each i lt) in
-      omega (arith, due, apart.2, (admitted_limits table ok i lt).deadline_fits)
+module _ (w : Work) (keeps : Keeps w) where
+  release_lies : (i : ℕ) (row : Row) → i < length w.table → row_at w.rows i ≡ row → w.clock ≤ next_release (w.clock + 1) row
+  release_lies i (Idle e) inside at = omega arith
+  release_lies i (Ready c d e) inside at =
+      let due = kept_before_due w keeps i c d e at in
+      let numbers : RowNumbers w.clock (duty_at w.table i) (Ready c d e) =
+      subst (λ (row : Row). RowNumbers w.clock (duty_at w.table i) row) at ((kept_gives 0 w keeps.work_kept).numbers.each i inside) in
+      omega (arith, due, numbers.2, (admitted_limits w.table keeps.table_admitted i inside).deadline_fits)
 
-  window_lies : (i : ℕ) (row : Row) → i < length table → row_at rows i ≡ row → clock ≤ window_end (clock + 1) (duty_at table i) row
-  window_lies i (Idle e) lt at = omega arith
-  window_lies i (Ready c d e) lt at =
-      omega (arith, kept_before_due clock table rows keeps i c d e at)
+  window_lies : (i : ℕ) (row : Row) → i < length w.table → row_at w.rows i ≡ row → w.clock ≤ window_end (w.clock + 1) (duty_at w.table i) row
+  window_lies i (Idle e) inside at = omega arith
+  window_lies i (Ready c d e) inside at = omega (arith, kept_before_due w keeps i c d e at)
 
-  pub row_ahead : (i : ℕ) → i < length table → RowAhead clock (duty_at table i) (row_at rows i)
-  row_ahead i lt =
+  pub row_ahead : (i : ℕ) → i < length w.table → RowAhead w.clock (duty_at w.table i) (row_at w.rows i)
+  row_ahead i inside =
       record {
-        limits = within_at table (admitted_says table ok).within i lt;
-        numbers = row_kept_from clock (duty_at table i) (row_at rows i) ((kept_gives clock table rows keeps).numbers.each i lt);
-        release_ahead = release_lies i (row_at rows i) lt refl;
-        window_ahead = window_lies i (row_at rows i) lt refl;
+        limits = within_at w.table (admitted_says w.table keeps.table_admitted).within i inside;
+        numbers = row_kept_from w.clock (duty_at w.table i) (row_at w.rows i) ((kept_gives 0 w keeps.work_kept).numbers.each i inside);
+        release_ahead = release_lies i (row_at w.rows i) inside refl;
+        window_ahead = window_lies i (row_at w.rows i) inside refl;
       }
 
 -- A row asks for its need.

@@ -1,9 +1,9 @@
 -- Stretches of a window: how far the ticks stay busy, and how far they stay idle.
 use Rattle.std.proofs.Common.{◌≡◌, ℕ, zero, suc, ◌+◌, ◌-◌, ◌≤◌, ◌∙◌, arith}
 use Rattle.model.specs.Idle.{idle_ticks}
-use Rattle.model.proofs.Slack.{Rising, idle_more, idle_same}
+use Rattle.model.proofs.Slack.{Monotone, idle_more, idle_same}
 
-module _ (f : ℕ → ℕ) (rising : Rising f) (at idle : ℕ) (so_far : idle ≡ idle_ticks f at) where
+module _ (f : ℕ → ℕ) (rising : Monotone f) (at idle : ℕ) (so_far : idle ≡ idle_ticks f at) where
   busy_for : (n : ℕ) → at + n ≤ f (at + 1) + idle → idle_ticks f (at + n) ≡ idle
   busy_for zero le = let e : at + 0 ≡ at = omega arith in rw e (omega arith)
   busy_for (suc n) le =

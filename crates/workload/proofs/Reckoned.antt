@@ -2,18 +2,21 @@
 use Rattle.std.proofs.Common.{◌≡◌, ℕ, zero, suc, ◌+◌, ◌-◌, ◌<◌, ◌≤◌, min, true, List, [], ◌∷◌, ◌++◌, length, take, sym, refl, ap, ◌∙◌, ⊎_elim, arith}
 use Rattle.std.proofs.lemmas.List.{take_more}
 use Rattle.std.proofs.lemmas.Bool.{cases_lt}
-use Rattle.model.proofs.Keeping.{kept_gives}
-use Rattle.model.proofs.Slack.{Rising, idle_more, idle_same, slack_is_idle_ticks}
+use Rattle.model.proofs.Invariant.{kept_gives}
+use Rattle.model.proofs.Slack.{Monotone, idle_more, idle_same, slack_is_idle_ticks}
+use Rattle.model.specs.Demand.{row_at}
 use Rattle.model.specs.Idle.{idle_ticks, within}
-use Rattle.model.specs.Reckoning.{row_at, row_slack, window_end}
+use Rattle.model.specs.Machine.{Work}
+use Rattle.model.specs.Slack.{row_slack, window_end}
 use Rattle.model.specs.Table.{duty_at}
 use Rattle.model.specs.declared.duties.Duty.{Duty}
 use Rattle.model.specs.declared.rows.Row.{Row}
 use Rattle.workload.proofs.Ahead.{RowAhead, all_ask_is_demand, row_ahead, streams_at, streams_length, streams_tame}
+use Rattle.workload.proofs.Asked.{keeps_in}
 use Rattle.workload.proofs.Minimum.{least_of, least_of_more}
 use Rattle.workload.proofs.Tame.{all_ask_rising, no_stream, tame_take}
 use Rattle.workload.specs.Streams.{all_ask, all_tame, stream_of, streams_of}
-use Rattle.workload.specs.Workloads.{rows_in, table_in}
+use Rattle.workload.specs.Workloads.{work_in}
 use Rattle.workload.specs.declared.streams.Stream.{Stream}
 use Rattle.workload.specs.declared.workloads.Workload.{Workload}
 
@@ -25,64 +28,67 @@ idle_alike f g same (suc n) =
     let next = same (suc n) in
     cc
 
-idle_at_most : (f : ℕ → ℕ) → Rising f → (n : ℕ) → idle_ticks f n ≤ n
+idle_at_most : (f : ℕ → ℕ) → Monotone f → (n : ℕ) → idle_ticks f n ≤ n
 idle_at_most f rising zero = omega arith
 idle_at_most f rising (suc n) =
     let before = idle_at_most f rising n in
     ⊎_elim (λ lt. omega (arith, idle_same f rising n lt)) (λ le. omega (arith, idle_more f rising n le)) (cases_lt n (f (suc n) + idle_ticks f n))
 
 module _ (w : Workload) where
+  abbrev work : Work
+  work = work_in w
+
   -- The streams of the first n rows, and the slack of row i.
   abbrev pub first_streams : ℕ → List Stream
-  first_streams n = take n (streams_of w.clock (table_in w) (rows_in w))
+  first_streams n = take n (streams_of work.clock work.table work.rows)
 
   abbrev pub slacks : ℕ → ℕ
-  slacks i = row_slack (w.clock + 1) w.clock (table_in w) (rows_in w) i
+  slacks i = row_slack (work.clock + 1) work.clock work.table work.rows i
 
-  same : length (rows_in w) ≡ length (table_in w)
-  same = (kept_gives w.clock (table_in w) (rows_in w) w.keeps).numbers.same_length
+  same : length work.rows ≡ length work.table
+  same = (kept_gives 0 work w.keeps).numbers.same_length
 
-  ahead : (i : ℕ) → i < length (table_in w) → RowAhead w.clock (duty_at (table_in w) i) (row_at (rows_in w) i)
-  ahead = row_ahead w.clock (table_in w) (rows_in w) w.setting.admits w.keeps
+  ahead : (i : ℕ) → i < length work.table → RowAhead work.clock (duty_at work.table i) (row_at work.rows i)
+  ahead = row_ahead work (keeps_in w)
 
   pub first_tame : (n : ℕ) → all_tame (first_streams n) ≡ true
   first_tame n =
-      tame_take n (streams_of w.clock (table_in w) (rows_in w)) (streams_tame w.clock (table_in w) (rows_in w) same ahead)
+      tame_take n (streams_of work.clock work.table work.rows) (streams_tame work.clock work.table work.rows same ahead)
 
-  module _ (i : ℕ) (lt : i < length (table_in w)) where
+  module _ (i : ℕ) (lt : i < length work.table) where
     -- One stream more.
-    stream_more : first_streams i ++ stream_of w.clock (duty_at (table_in w) i) (row_at (rows_in w) i) ∷ [] ≡ first_streams (i + 1)
+    stream_more : first_streams i ++ stream_of work.clock (duty_at work.table i) (row_at work.rows i) ∷ [] ≡ first_streams (i + 1)
     stream_more =
-        let all = streams_of w.clock (table_in w) (rows_in w) in
-        let inside : i < length all = omega (arith, streams_length w.clock (table_in w) (rows_in w) same) in
+        let all = streams_of work.clock work.table work.rows in
+        let inside : i < length all = omega (arith, streams_length work.clock work.table work.rows same) in
         sym (take_more all i no_stream inside
-        ∙ ap (λ (s : Stream). first_streams i ++ s ∷ []) (streams_at w.clock (table_in w) (rows_in w) i no_stream same lt))
+        ∙ ap (λ (s : Stream). first_streams i ++ s ∷ []) (streams_at work.clock work.table work.rows i no_stream same lt))
 
     -- The idle ticks of the streams of rows 0 to i, in the window of row i, are its slack.
     abbrev window_at : ℕ
-    window_at = window_end (w.clock + 1) (duty_at (table_in w) i) (row_at (rows_in w) i) - w.clock
+    window_at = window_end (work.clock + 1) (duty_at work.table i) (row_at work.rows i) - work.clock
 
     idle_is_slack : idle_ticks (all_ask (first_streams (i + 1))) window_at ≡ slacks i
     idle_is_slack =
         let one : i + 1 ≡ suc i = omega arith in
         rw one
-        (idle_alike (all_ask (first_streams (suc i))) (within (w.clock + 1) w.clock (table_in w) (rows_in w) i)
-        (λ v. all_ask_is_demand w.clock (table_in w) (rows_in w) (suc i) v same (λ k short. (ahead k short).release_ahead))
+        (idle_alike (all_ask (first_streams (suc i))) (within (work.clock + 1) work.clock work.table work.rows i)
+        (λ v. all_ask_is_demand work.clock work.table work.rows (suc i) v same (λ k short. (ahead k short).release_ahead))
         window_at
-        ∙ sym (slack_is_idle_ticks (w.clock + 1) w.clock (table_in w) (rows_in w) i))
+        ∙ sym (slack_is_idle_ticks (work.clock + 1) work.clock work.table work.rows i))
 
     -- A turn over row i, with its duty and its state.
-    module _ (duty : Duty) (row : Row) (this : duty ≡ duty_at (table_in w) i) (that : row ≡ row_at (rows_in w) i) where
-      pub turn_ahead : RowAhead w.clock duty row
+    module _ (duty : Duty) (row : Row) (this : duty ≡ duty_at work.table i) (that : row ≡ row_at work.rows i) where
+      pub turn_ahead : RowAhead work.clock duty row
       turn_ahead = rw (this, that) (ahead i lt)
 
       pub turn_streams : (before after : List Stream) (stream : Stream)
-          → before ≡ first_streams i → stream ≡ stream_of w.clock duty row → after ≡ before ++ stream ∷ [] → after ≡ first_streams (i + 1)
+          → before ≡ first_streams i → stream ≡ stream_of work.clock duty row → after ≡ before ++ stream ∷ [] → after ≡ first_streams (i + 1)
       turn_streams before after stream so_far is pushed = cc stream_more
 
       pub turn_slack : (streams : List Stream) (window idle least : ℕ)
           → streams ≡ first_streams (i + 1)
-          → window ≡ window_end (w.clock + 1) duty row - w.clock → window ≤ 8192
+          → window ≡ window_end (work.clock + 1) duty row - work.clock → window ≤ 8192
           → idle ≡ idle_ticks (all_ask streams) window
           → least ≡ least_of slacks i → min least idle ≡ least_of slacks (i + 1)
       turn_slack streams window idle least are ends short is so_far =

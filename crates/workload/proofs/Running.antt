@@ -1,54 +1,47 @@
--- A tick that goes to the duties: what it leaves in the rows, before the clock moves on.
-use Rattle.std.proofs.Common.{◌≡◌, ℕ, ◌+◌, ◌<◌, [], true, length, get_or, Some, None, Ok, Err, Result, sym, refl, ◌∙◌, arith}
+-- A tick that goes to the duties: what it leaves of the work, before the clock moves on.
+use Rattle.std.proofs.Common.{◌≡◌, ℕ, ◌<◌, [], length, get_or, Some, None, Ok, Err, Result, sym, refl, ap, ◌∙◌, arith, subst}
 use Rattle.model.proofs.Admitted.{admitted_says}
-use Rattle.model.proofs.Keeping.{kept_gives}
+use Rattle.model.proofs.Invariant.{kept_gives}
+use Rattle.model.proofs.RefusalCodes.{refusal_code_some}
 use Rattle.model.proofs.Searches.{least_found}
 use Rattle.model.proofs.Ticks.{duty_tick_keeps, run_accepted}
-use Rattle.model.proofs.Told.{told_some}
-use Rattle.model.specs.Kept.{kept}
-use Rattle.model.specs.Machine.{call_refusal, duty_tick, first_ready, ready_at, rows_after}
-use Rattle.model.specs.Reckoning.{no_row}
+use Rattle.model.specs.Demand.{no_row}
+use Rattle.model.specs.Kept.{Keeps}
+use Rattle.model.specs.Machine.{RowCalled, Work, after_call, call_refusal, duty_tick, first_ready, later, ready_at}
 use Rattle.model.specs.declared.refusals.Refusal.{Refusal}
 use Rattle.model.specs.declared.rows.RowCall.TheVariants.{Run}
-use Rattle.workload.proofs.Asked.{row_answers}
-use Rattle.workload.specs.Acts.{RowAsked}
-use Rattle.workload.specs.Workloads.{rows_in, table_in}
+use Rattle.table.specs.Settings.{table_of}
+use Rattle.workload.proofs.Asked.{keeps_in, row_answers}
+use Rattle.workload.specs.Workloads.{work_in}
 use Rattle.workload.specs.declared.workloads.Workload.{Workload}
 
--- The rows have had the tick; the table and the clock are as they were.
-pub record Ran (w w' : Workload) : Type 0 where
-  pub rows : rows_in w' ≡ duty_tick (table_in w) w.clock (rows_in w)
-  pub setting : w'.setting ≡ w.setting
-  pub clock : w'.clock ≡ w.clock
-
--- Such rows are kept at the next clock.
-pub ran_kept : (w w' : Workload) → Ran w w' → kept (w'.clock + 1) (table_in w') (rows_in w') ≡ true
-ran_kept w w' h =
-    rw (h.rows, h.setting, h.clock) (duty_tick_keeps (table_in w) w.setting.admits w.clock (rows_in w) w.keeps)
+-- Such work is kept at the next clock.
+pub ran_keeps : (w : Workload) (then : Work) → then ≡ duty_tick (work_in w) → Keeps (later then)
+ran_keeps w then ran = subst (λ work. Keeps (later work)) (sym ran) (duty_tick_keeps (work_in w) (keeps_in w))
 
 module _ (w : Workload) where
   -- A tick that nobody has leaves the rows.
-  pub nobody_ran : first_ready (rows_in w) ≡ None → Ran w w
-  nobody_ran e = record { rows = sym (rw (e, duty_tick)); setting = refl; clock = refl }
+  pub nobody_ran : first_ready (work_in w).rows ≡ None → work_in w ≡ duty_tick (work_in w)
+  nobody_ran e = sym (rw (e, duty_tick))
 
-  module _ (i : ℕ) (e : first_ready (rows_in w) ≡ Some i) where
-    ready_inside : i < length (table_in w)
+  module _ (i : ℕ) (e : first_ready (work_in w).rows ≡ Some i) where
+    ready_inside : i < length (table_of w.setting)
     ready_inside =
-        let same = (kept_gives w.clock (table_in w) (rows_in w) w.keeps).numbers.same_length in
-        omega (arith, same, (least_found (ready_at (rows_in w)) 0 (length (rows_in w)) i e).below)
+        let same = (kept_gives 0 (work_in w) w.keeps).numbers.same_length in
+        omega (arith, same, (least_found (ready_at (work_in w).rows) 0 (length (work_in w).rows) i e).below)
 
     pub ready_few : i < 16
-    ready_few = omega (arith, ready_inside, (admitted_says (table_in w) w.setting.admits).few)
+    ready_few = omega (arith, ready_inside, (admitted_says (table_of w.setting) w.setting.admits).few)
 
     -- A ready row takes a tick,
-    accepted : call_refusal w.clock (rows_in w) i Run ≡ []
+    accepted : call_refusal (work_in w) i Run ≡ []
     accepted =
-        row_answers w.clock (table_in w) w.rows i Run w.setting.admits w.keeps ready_inside
+        row_answers (table_of w.setting) w.clock w.rows i Run (keeps_in w) ready_inside
         ∙ run_accepted w.clock (get_or w.rows i no_row)
 
     -- and has had it once it was asked to run.
-    pub row_ran : {X : Type 0} (r : Result X Refusal) (w' : Workload) → RowAsked w i Run r w' → Ran w w'
-    row_ran (Ok x) w' (free, rows, setting, clock) =
-        let tick : duty_tick (table_in w) w.clock (rows_in w) ≡ rows_after (table_in w) w.clock (rows_in w) i Run = rw (e, duty_tick) in
-        record { rows = rows ∙ sym tick; setting = setting; clock = clock }
-    row_ran (Err why) w' (barred, same) = let (n, ns, some) = told_some why in absurd (cc (accepted, barred, some))
+    pub row_ran : {X : Type 0} (r : Result X Refusal) (then : Work) → RowCalled (work_in w) i Run r then → then ≡ duty_tick (work_in w)
+    row_ran (Ok x) then (free, is) =
+        let tick : duty_tick (work_in w) ≡ after_call (work_in w) i Run = rw (e, duty_tick) in
+        is ∙ sym tick
+    row_ran (Err why) then (barred, same) = let (n, ns, some) = refusal_code_some why in absurd (cc (accepted, barred, some))

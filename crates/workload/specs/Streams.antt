@@ -1,6 +1,6 @@
 -- Streams of work, by times that count from the clock.
 use Rattle.std.specs.Prelude.{ℕ, ◌+◌, ◌-◌, ◌*◌, Bool, true, ◌&&◌, List, [], ◌∷◌, nat_le}
-use Rattle.model.specs.Reckoning.{left_of, next_release}
+use Rattle.model.specs.Demand.{left_of, next_release}
 use Rattle.model.specs.Table.{ceil}
 use Rattle.model.specs.declared.duties.Duty.{Duty}
 use Rattle.model.specs.declared.rows.Row.{Row}

@@ -1,13 +1,9 @@
--- What a workload holds.
-use Rattle.std.specs.Prelude.{List, length, take}
-use Rattle.model.specs.declared.duties.Duty.{Duty}
-use Rattle.model.specs.declared.rows.Row.{Row}
+-- A workload as the work of the machine.
+use Rattle.model.specs.Machine.{Work}
 use Rattle.table.specs.Settings.{table_of}
+use Rattle.workload.specs.Slots.{work_of}
 use Rattle.workload.specs.declared.workloads.Workload.{Workload}
 
--- Its table, and the state of each row.
-abbrev pub table_in : Workload → List Duty
-table_in w = table_of w.setting
-
-abbrev pub rows_in : Workload → List Row
-rows_in w = take (length (table_in w)) w.rows
+-- Its table, its clock, and the records in use.
+abbrev pub work_in : Workload → Work
+work_in w = work_of (table_of w.setting) w.clock w.rows

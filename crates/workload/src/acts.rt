@@ -2,7 +2,7 @@
 ghost use Rattle.std.specs.Prelude.{◌≡◌};
 ghost use Rattle.model.specs.Machine.{released, row_refusal};
 ghost use Rattle.model.specs.Refusals.{refusal};
-ghost use Rattle.workload.specs.Acts.{acted};
+ghost use Rattle.workload.specs.Slots.{acted};
 
 use model::{Duty, Refusal, Row, RowCall};
 

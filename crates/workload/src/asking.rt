@@ -1,24 +1,20 @@
 // A workload begins fresh, and goes on by releases, dones and ticks.
-ghost use Rattle.std.specs.Prelude.{◌≡◌, ◌+◌, ◌<◌, length, replicate};
-ghost use Rattle.model.specs.Machine.{duty_tick, first_ready, last_clock};
-ghost use Rattle.model.specs.declared.rows.Row.TheVariants.{Idle};
+ghost use Rattle.std.specs.Prelude.{◌≡◌, ◌<◌, OnErr};
+ghost use Rattle.model.specs.Machine.{RowCalled, WorkTicks, duty_tick, duty_turn, first_ready, fresh_work, last_clock, later};
 ghost use Rattle.model.specs.declared.rows.RowCall.TheVariants.{Release, Done};
 ghost use Rattle.table.specs.Settings.{table_of};
-ghost use Rattle.workload.specs.Acts.{RowAsked, Ticked, turn_of};
-ghost use Rattle.workload.specs.Workloads.{rows_in, table_in};
+ghost use Rattle.workload.specs.Workloads.{work_in};
 
 use crate::acts::act;
-use crate::turns::Turn;
 use crate::workloads::Workload;
-use model::{Refusal, Row, RowCall};
+use model::{Refusal, Row, RowCall, Who};
 use table::{MOST_ROWS, Setting};
 
 impl Workload {
     // At the start the clock is 0 and every row is idle and may be released at once.
     pub fn start(setting: Setting) -> Workload
-        ensures table { table_in result ≡ table_of setting }
-        ensures rows { rows_in result ≡ replicate (length (table_of setting)) (Idle 0) }
-        ensures clock { result.clock ≡ 0 }
+        ensures work { work_in result ≡ fresh_work (table_of setting) }
+        ensures setting { result.setting ≡ setting }
     {
         Workload {
             setting,
@@ -28,19 +24,25 @@ impl Workload {
     }
 
     pub fn release(&mut self, row: u32) -> Result<(), Refusal>
-        ensures { RowAsked self.old row Release result self.new }
+        ensures step { RowCalled (work_in self.old) row Release result (work_in self.new) }
+        ensures setting { self.new.setting ≡ self.old.setting }
+        ensures refused { OnErr result (self.new ≡ self.old) }
     {
         self.ask(row, RowCall::Release)
     }
 
     pub fn done(&mut self, row: u32) -> Result<(), Refusal>
-        ensures { RowAsked self.old row Done result self.new }
+        ensures step { RowCalled (work_in self.old) row Done result (work_in self.new) }
+        ensures setting { self.new.setting ≡ self.old.setting }
+        ensures refused { OnErr result (self.new ≡ self.old) }
     {
         self.ask(row, RowCall::Done)
     }
 
     fn ask(&mut self, row: u32, call: RowCall) -> Result<(), Refusal>
-        ensures { RowAsked self.old row call result self.new }
+        ensures step { RowCalled (work_in self.old) row call result (work_in self.new) }
+        ensures setting { self.new.setting ≡ self.old.setting }
+        ensures refused { OnErr result (self.new ≡ self.old) }
     {
         let row = row as usize;
         let Some(&duty) = self.setting.rows().get(row) else {
@@ -51,8 +53,10 @@ impl Workload {
 
     // One tick. It is to spare exactly if an errand waits and the slack is at least 1; otherwise the first ready row
     // has it, or nobody.
-    pub fn tick(&mut self, errand_waits: bool) -> Result<(u32, Turn), Refusal>
-        ensures { Ticked self.old errand_waits result self.new }
+    pub fn tick(&mut self, errand_waits: bool) -> Result<(u32, Option<Who>), Refusal>
+        ensures step { WorkTicks (work_in self.old) errand_waits result (work_in self.new) }
+        ensures setting { self.new.setting ≡ self.old.setting }
+        ensures refused { OnErr result (self.new ≡ self.old) }
     {
         if self.clock == u32::MAX {
             return Err(Refusal::ClockEnded);
@@ -60,36 +64,35 @@ impl Workload {
         let slack = self.slack();
         let turn = if errand_waits && slack >= 1 {
             self.clock += 1;
-            Turn::Spare
+            None
         } else {
-            self.run()
+            Some(self.run())
         };
         Ok((slack, turn))
     }
 
     // The first ready row has a tick, or nobody.
-    fn run(&mut self) -> Turn
+    fn run(&mut self) -> Who
         requires { self.old.clock < last_clock }
-        ensures turn { result ≡ turn_of (first_ready (rows_in self.old)) }
-        ensures rows { rows_in self.new ≡ duty_tick (table_in self.old) self.old.clock (rows_in self.old) }
+        ensures who { result ≡ duty_turn (work_in self.old) }
+        ensures work { work_in self.new ≡ later (duty_tick (work_in self.old)) }
         ensures setting { self.new.setting ≡ self.old.setting }
-        ensures clock { self.new.clock ≡ self.old.clock + 1 }
     {
-        let turn = match self.first_ready() {
+        let who = match self.first_ready() {
             Some(row) => {
                 let row = row as u32;
                 let _ = self.ask(row, RowCall::Run);
-                Turn::Duty(row)
+                Who::Duty(row)
             }
-            None => Turn::Nobody,
+            None => Who::Nobody,
         };
         self.clock += 1;
-        turn
+        who
     }
 
     // The first ready row.
     fn first_ready(&self) -> Option<usize>
-        ensures { result ≡ first_ready (rows_in self.now) }
+        ensures { result ≡ first_ready (work_in self.now).rows }
     {
         self.rows()
             .iter()
@@ -98,7 +101,7 @@ impl Workload {
 
     // The states of the table's rows.
     pub(crate) fn rows(&self) -> &[Row]
-        ensures { result.now ≡ rows_in self.now }
+        ensures { result.now ≡ (work_in self.now).rows }
     {
         &self.rows[..self.setting.rows().len()]
     }

@@ -8,8 +8,6 @@ mod streams;
 mod stretches;
 #[cfg(test)]
 mod tests;
-mod turns;
 mod workloads;
 
-pub use turns::Turn;
 pub use workloads::Workload;

@@ -1,10 +1,12 @@
 // The exact slack of a workload.
 ghost use Rattle.std.specs.Prelude.{◌≡◌, ◌+◌, ◌-◌, ◌≤◌, true};
+ghost use Rattle.model.specs.Demand.{next_release};
 ghost use Rattle.model.specs.Kept.{row_kept};
-ghost use Rattle.model.specs.Reckoning.{next_release, table_slack, window_end};
+ghost use Rattle.model.specs.Machine.{slack_of};
+ghost use Rattle.model.specs.Slack.{window_end};
 ghost use Rattle.model.specs.Table.{within_limits};
 ghost use Rattle.workload.specs.Streams.{stream_of};
-ghost use Rattle.workload.specs.Workloads.{rows_in, table_in};
+ghost use Rattle.workload.specs.Workloads.{work_in};
 
 use crate::streams::Stream;
 use crate::stretches::Demand;
@@ -60,7 +62,7 @@ impl Ahead {
 impl Workload {
     // The table's slack, with the releases for the clock over: the least over the rows, 65,535 if there are none.
     pub fn slack(&self) -> u32
-        ensures { result ≡ table_slack (self.now.clock + 1) self.now.clock (table_in self.now) (rows_in self.now) }
+        ensures { result ≡ slack_of (work_in self.now) }
     {
         // The streams of the rows so far.
         let mut streams: ArrayVec<Stream, MOST_ROWS> = ArrayVec::new();

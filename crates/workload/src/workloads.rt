@@ -1,7 +1,8 @@
-ghost use Rattle.std.specs.Prelude.{◌≡◌, ◌-◌, true, length, take, drop, replicate};
+ghost use Rattle.std.specs.Prelude.{◌≡◌, ◌-◌, true, length, drop, replicate};
 ghost use Rattle.model.specs.Kept.{kept};
 ghost use Rattle.model.specs.declared.rows.Row.TheVariants.{Idle};
 ghost use Rattle.table.specs.Settings.{table_of};
+ghost use Rattle.workload.specs.Slots.{work_of};
 
 use model::Row;
 use table::{MOST_ROWS, Setting};
@@ -14,7 +15,7 @@ pub struct Workload {
     // a second count, which would have to equal the setting's.
     pub(crate) rows: [Row; MOST_ROWS],
     pub(crate) clock: u32,
-    ghost keeps: { kept clock (table_of setting) (take (length (table_of setting)) rows) ≡ true },
+    ghost keeps: { kept (work_of (table_of setting) clock rows) ≡ true },
     // The slots that are not in use stay as they were made.
     ghost unused: { drop (length (table_of setting)) rows ≡ replicate (16 - length (table_of setting)) (Idle 0) },
 }

@@ -2,27 +2,27 @@ use Rattle.std.proofs.Common.{◌<◌, List, ◌++◌, length, get_or, take, sym
 use Rattle.std.proofs.lemmas.List.{take_all}
 use Rattle.model.proofs.Histories.{chosen_more, chosen_none, goes_on_more, history_more, stays_on, step_named}
 use Rattle.model.proofs.Promise.{every_run_keeps_the_promise}
+use Rattle.model.proofs.Spare.{fresh_keeps}
 use Rattle.model.specs.Histories.{Chosen, GoesOn, History, by_call, history}
-use Rattle.model.specs.Machine.{State, Step, fresh}
+use Rattle.model.specs.Machine.{State, fresh}
 use Rattle.model.specs.Runs.{Run, Trace, stay}
-use Rattle.model.specs.declared.duties.Duty.{Duty}
 use Rattle.table.specs.Settings.{table_of}
 use Rattle.queue.specs.Untouched.{none}
 use Rattle.dispatcher.proofs.Scripted.{calls_stay, left_along, left_more, no_entry, run_more, trace_more}
 use Rattle.dispatcher.specs.Left.{LeftAlong}
 use Rattle.dispatcher.specs.Scripts.{trace_of}
-use Rattle.dispatcher.specs.Views.{duties, view}
+use Rattle.dispatcher.specs.Views.{view}
 use Rattle.dispatcher.specs.declared.entries.Entry.{Entry}
 use Rattle.dispatcher.proofs.runs.run.Goals as goal
 
 pub loop-entry-init : goal.loop-entry-init
 loop-entry-init g c =
     let q = c.start-dispatcher.result.queue in
-    (stay, refl, refl, stays_on g.Q.Queue.arises q q refl, refl, λ past _. chosen_none g.Q.Queue.choice past)
+    (stay, refl, stays_on g.Q.Queue.arises q q refl, refl, λ past _. chosen_none g.Q.Queue.choice past)
 
 pub loop-entry-preserved : goal.loop-entry-preserved
 loop-entry-preserved g c =
-    let (run, table, calls, goes_on, left, chosen) = c.loop-entry.invariant in
+    let (run, calls, goes_on, left, chosen) = c.loop-entry.invariant in
     let script = c.loop-entry.script in
     let i = c.loop-entry.entry-index in
     let answer = c.carry_out-entry.result in
@@ -38,9 +38,8 @@ loop-entry-preserved g c =
     let q' = c.carry_out-entry.new.self.queue in
     let short : i < length script = omega arith in
     let more = sym (trace_more script i answer short) in
-    let next = subst (λ (t : List Duty). Step t before call answer after) table c.carry_out-entry.ensures.step in (
-      subst (λ (t : Trace). Run (duties first) (view g.Q.Queue.meaning first) t after) more (run_more call answer run next),
-      c.carry_out-entry.ensures.table ∙ table,
+    let next = c.carry_out-entry.ensures.step in (
+      subst (λ (t : Trace). Run (view g.Q.Queue.meaning first) t after) more (run_more call answer run next),
       calls_stay script i answer short ∙ calls,
       subst (λ (t : Trace). GoesOn arises first.queue (history t) q') more
           (subst (λ (h : History). GoesOn arises first.queue h q') (sym (history_more trace call answer))
@@ -51,21 +50,21 @@ loop-entry-preserved g c =
           (chosen_more choice past trace call answer (chosen past arose)
           (λ slack n tick ticked.
           sym (g.Q.Queue.chooses (past ++ history trace) q (goes_on past arose))
-          ∙ step_named (duties first) before call answer after next slack n tick ticked)),
+          ∙ step_named before call answer after next slack n tick ticked)),
     )
 
 pub returns : goal.returns
 returns g c =
-    let (run, table, calls, goes_on, left, chosen) = c.loop-entry.invariant in
+    let (run, calls, goes_on, left, chosen) = c.loop-entry.invariant in
     let setting = c.args.setting in
     let m = g.Q.Queue.meaning c.args.queue in
     let end = view g.Q.Queue.meaning c.loop-entry.dispatcher in
     let whole = take_all c.loop-entry.entry-index c.loop-entry.script (omega arith) in
-    let all : Run (duties c.start-dispatcher.result) (view g.Q.Queue.meaning c.start-dispatcher.result) (trace_of c.loop-entry.script) end =
-    subst (λ (s : List Entry). Run (duties c.start-dispatcher.result) (view g.Q.Queue.meaning c.start-dispatcher.result) (trace_of s) end) whole run in
-    let fresh-run : Run (table_of setting) (fresh (table_of setting) m) (trace_of c.loop-entry.script) end =
-    subst (λ (t : List Duty). Run t (fresh (table_of setting) m) (trace_of c.loop-entry.script) end) c.start-dispatcher.ensures.table
-    (subst (λ (s : State). Run (duties c.start-dispatcher.result) s (trace_of c.loop-entry.script) end) c.start-dispatcher.ensures.state all) in
+    let all : Run (view g.Q.Queue.meaning c.start-dispatcher.result) (trace_of c.loop-entry.script) end =
+    subst (λ (s : List Entry). Run (view g.Q.Queue.meaning c.start-dispatcher.result) (trace_of s) end) whole run in
+    let start : State = fresh (table_of setting) m in
+    let fresh-run : Run start (trace_of c.loop-entry.script) end =
+    subst (λ (s : State). Run s (trace_of c.loop-entry.script) end) c.start-dispatcher.ensures.state all in
     let q = c.start-dispatcher.result.queue in
     let started : (past : History) → g.Q.Queue.arises past c.args.queue → g.Q.Queue.arises past q =
     λ past arose. subst (g.Q.Queue.arises past) (sym c.start-dispatcher.ensures.queue) arose in
@@ -75,9 +74,8 @@ returns g c =
     subst (λ start. LeftAlong g.Q.Queue.untouched start (trace_of c.loop-entry.script) c.loop-entry.dispatcher.queue) c.start-dispatcher.ensures.queue
     (subst (λ (s : List Entry). LeftAlong g.Q.Queue.untouched q (trace_of s) c.loop-entry.dispatcher.queue) whole left) in
     record {
-      promise = every_run_keeps_the_promise (table_of setting) m (trace_of c.loop-entry.script) end setting.admits (g.Q.Queue.sound c.args.queue) fresh-run;
+      promise = every_run_keeps_the_promise start (trace_of c.loop-entry.script) end (fresh_keeps (table_of setting) setting.admits) (g.Q.Queue.sound c.args.queue) fresh-run;
       calls = calls;
-      table = table ∙ c.start-dispatcher.ensures.table;
       history = λ past arose. went past (started past arose);
       untouched = left_along g.Q.Queue.untouched c.args.queue c.args.queue c.loop-entry.dispatcher.queue (trace_of c.loop-entry.script) none along;
       left = along;

@@ -1,30 +1,18 @@
-use Rattle.std.proofs.Common.{◌&&◌, leb, refl, subst, ap}
-use Rattle.model.proofs.Histories.{stays_on}
-use Rattle.table.specs.Settings.{table_of}
-use Rattle.workload.specs.Acts.{Turns, slack_in}
-use Rattle.workload.specs.Workloads.{rows_in}
-use Rattle.workload.specs.declared.turns.Turn.{Turn}
-use Rattle.dispatcher.proofs.Turning.{duty_turns}
+use Rattle.std.proofs.Common.{Option, sym, subst, refl}
+use Rattle.model.proofs.Histories.{run_adds_nothing, stays_on}
+use Rattle.model.specs.Histories.{GoesOn, History}
+use Rattle.model.specs.Machine.{SparedOrRun, errand_due}
+use Rattle.model.specs.declared.calls.Who.{Who}
+use Rattle.workload.specs.Workloads.{work_in}
 use Rattle.dispatcher.proofs.dispatchers.Dispatcher.tick.Goals as goal
 
-pub returns-in-Duty : goal.returns-in-Duty
-returns-in-Duty g c =
-    let ticked = c.in_ok-slack.ensures in
-    let w = c.args.self.now.work in
-    let w' = c.tick.new.self in
+-- A tick that is not to spare adds nothing to the history of the queue.
+pub returns-in-Some-clause-history : goal.returns-in-Some-clause-history
+returns-in-Some-clause-history g c =
+    let w = work_in c.args.self.now.work in
+    let w' = work_in c.tick.new.self in
+    let due = errand_due w c.errand_waits-errand_waits.result in
     let q = c.args.self.now.queue in
-    let turns =
-    subst (λ (turn : Turn). Turns (c.errand_waits-errand_waits.result && leb 1 (slack_in w)) w turn (rows_in w')) c.in-Duty.is ticked.3 in
-    record {
-      step = (
-        ticked.0,
-        ticked.1,
-        ticked.2,
-        duty_turns w w' (g.Q.Queue.meaning q) c.errand_waits-errand_waits.result c.errand_waits-errand_waits.ensures
-            c.in-Duty.row turns,
-      );
-      table = ap table_of ticked.4;
-      history = stays_on g.Q.Queue.arises q q refl;
-      queue = λ nothing. refl;
-      refused = tt;
-    }
+    let ran = subst (λ (turn : Option Who). SparedOrRun due w turn w') c.in-Some.is c.in_ok-slack.ensures.step.2 in
+    subst (λ (added : History). GoesOn g.Q.Queue.arises q added q) (sym (run_adds_nothing due w c.in-Some.who w' ran))
+    (stays_on g.Q.Queue.arises q q refl)

@@ -1,7 +1,7 @@
 use Rattle.std.proofs.Common.{◌≡◌, ◌∷◌, [], Some, length, sym, ap, ◌∙◌, arith}
 use Rattle.std.specs.List.{insert}
 use Rattle.model.proofs.Admitted.{admitted_says}
-use Rattle.model.specs.Table.{add_refusal, admitted, all_within, first_late, unschedulable}
+use Rattle.model.specs.Table.{add_refusal, admitted, all_within, first_unschedulable, unschedulable_refusal}
 use Rattle.table.proofs.Admission.{by_analysis, refused_leaves, taken_out, within_inserted}
 use Rattle.table.specs.Settings.{table_of}
 use Rattle.table.proofs.settings.Setting.add.Goals as goal
@@ -20,11 +20,11 @@ invariant_of-self c =
 pub returns-in-Some-clause-leaves : goal.returns-in-Some-clause-leaves
 returns-in-Some-clause-leaves c =
     let table = table_of c.args.self.now in
-    let late : first_late (insert table c.args.place c.args.duty) ≡ Some c.in-Some.row =
-    sym (ap first_late (c.deref.ensures.0 ∙ c.insert.ensures.items)) ∙ sym c.first_late.ensures ∙ c.in-Some.is in
+    let late : first_unschedulable (insert table c.args.place c.args.duty) ≡ Some c.in-Some.row =
+    sym (ap first_unschedulable (c.deref.ensures.0 ∙ c.insert.ensures.items)) ∙ sym c.first_unschedulable.ensures ∙ c.in-Some.is in
     let refused : add_refusal table c.args.place c.args.duty ≡ 4 ∷ c.in-Some.row ∷ [] =
     by_analysis table c.args.place c.args.duty (omega arith) (sym c.if-not-within_limits.ensures)
     (omega (arith, c.insert.ensures.len, c.deref.ensures.1, ap length c.deref.ensures.0))
-    ∙ ap unschedulable late in
+    ∙ ap unschedulable_refusal late in
     taken_out table _ _ c.args.place c.args.duty (omega arith) c.insert.ensures.items c.remove.ensures.items
     ∙ sym (refused_leaves table c.args.place c.args.duty _ _ refused)

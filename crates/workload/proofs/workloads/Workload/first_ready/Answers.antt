@@ -3,9 +3,9 @@ use Rattle.std.proofs.lemmas.Iterator.{IsFirst-from_position, YieldsList-from_sl
 use Rattle.std.specs.List.{AllWithin, HoldsAt}
 use Rattle.model.proofs.Searches.{least_is, least_none}
 use Rattle.model.specs.Machine.{first_ready, is_ready, ready_at}
-use Rattle.model.specs.Reckoning.{no_row}
+use Rattle.model.specs.Demand.{no_row}
 use Rattle.model.specs.declared.rows.Row.{Row}
-use Rattle.workload.specs.Workloads.{rows_in}
+use Rattle.workload.specs.Workloads.{work_in}
 use Rattle.workload.proofs.workloads.Workload.first_ready.Goals as goal
 
 -- The first place at which a row is ready.
@@ -25,8 +25,8 @@ first_place rows (Some i) (inside, ready, others) =
 
 pub returns : goal.returns
 returns c =
-    first_place (rows_in c.args.self.now) c.position.result
+    first_place (work_in c.args.self.now).rows c.position.result
     (IsFirst-from_position _ _ _ IsReady NotReady c.position.ensures.ran
-    (YieldsList-from_slice (rows_in c.args.self.now) cc)
+    (YieldsList-from_slice (work_in c.args.self.now).rows cc)
     (λ x q k. search rules)
     (λ x q k. search rules))
