@@ -13,7 +13,7 @@ use Rattle.forms.specs.declared.sayings.Said.{Said}
 use Rattle.forms.specs.declared.sayings.Said.TheVariants.{Duty as AddDuty, At as AtClock, End, Remark}
 use Rattle.forms.proofs.Apart.{taken_apart}
 use Rattle.forms.proofs.Lengths.{line_within}
-use Rattle.model.specs.Table.{add_refusal, first_late, unschedulable, within_limits}
+use Rattle.model.specs.Table.{add_refusal, first_unschedulable, unschedulable_refusal, within_limits}
 use Rattle.model.specs.declared.duties.Duty.{Duty}
 use Rattle.sheet.specs.Ats.{AtLine}
 use Rattle.sheet.specs.Orders.{SoFar, at_line, has_room, line_judged, nothing_read, with_said}
@@ -36,7 +36,7 @@ not_refused false false false late e = (refl, refl)
 few_added : (table : List Duty) (place : ℕ) (d : Duty) (refusal : List ℕ) → add_refusal table place d ≡ refusal → length table ≤ 16
     → length (elim refusal as (λ x. List Duty) [ [] ↦ insert table place d | ◌∷◌ n ns ↦ table ]) ≤ 16
 few_added table place d [] e few =
-    let late = unschedulable (first_late (insert table place d)) in
+    let late = unschedulable_refusal (first_unschedulable (insert table place d)) in
     let (near, room) = not_refused (ltb (length table) place) (not (within_limits d)) (leb 16 (length table)) late e in
     omega (arith, length-insert table place d (ltb-false _ _ near), leb-false _ _ room)
 few_added table place d (n ∷ ns) e few = few

@@ -4,7 +4,7 @@ use Rattle.std.specs.List.{insert}
 use Rattle.std.proofs.lemmas.Bool.{and_from, leb-false, le-leb, ltb-false, not-false, not_from_false}
 use Rattle.std.proofs.lemmas.List.Edits.{length-insert}
 use Rattle.model.proofs.Admitted.{admitted_says}
-use Rattle.model.specs.Table.{add_refusal, admitted, unschedulable}
+use Rattle.model.specs.Table.{add_refusal, admitted, unschedulable_refusal}
 use Rattle.model.specs.declared.duties.Duty.{Duty}
 use Rattle.table.proofs.Admission.{within_inserted}
 use Rattle.forms.specs.Faults.{Fault, fault, unless}
@@ -23,7 +23,7 @@ passed : (b : Bool) (n : ℕ) (rest : List ℕ) → cond b (n ∷ []) rest ≡ [
 passed true n rest e = cc
 passed false n rest e = (refl, e)
 
-none_late : (o : Option ℕ) → unschedulable o ≡ [] → is_some o ≡ false
+none_late : (o : Option ℕ) → unschedulable_refusal o ≡ [] → is_some o ≡ false
 none_late None e = refl
 none_late (Some row) e = cc
 

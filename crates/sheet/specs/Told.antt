@@ -1,6 +1,6 @@
 -- The number and the values of each fault of the sheet and of the table.
 use Rattle.std.specs.Prelude.{ℕ, List, [], ◌∷◌, Some, None, Option, slice_index}
-use Rattle.model.specs.Refusals.{told}
+use Rattle.model.specs.Refusals.{refusal_code}
 use Rattle.forms.specs.Faults.{Fault, fault, forms_told}
 use Rattle.forms.specs.declared.faults.Layer.TheVariants.{Sheet, Table}
 use Rattle.forms.specs.declared.faults.Place.{Place}
@@ -27,4 +27,4 @@ sheet_told (TooLong place) = fault 17 Sheet place
 
 abbrev pub table_told : TableFault → Fault
 table_told (OfSheet f) = sheet_told f
-table_told (Refused place why) = table_fault place (told why)
+table_told (Refused place why) = table_fault place (refusal_code why)

@@ -1,7 +1,7 @@
 // Faults passed on from layer to layer, and told; each keeps its number, line, byte and layer.
 ghost use Rattle.std.specs.Prelude.{◌≡◌};
 ghost use Rattle.forms.specs.Faults.{forms_told};
-ghost use Rattle.model.specs.Refusals.{told};
+ghost use Rattle.model.specs.Refusals.{refusal_code};
 ghost use Rattle.sheet.specs.Told.{row_told, sheet_told, table_told};
 
 use crate::faults::{SheetFault, TableFault};
@@ -40,7 +40,7 @@ impl SheetFault {
 
 // The row that a refusal names.
 fn row_told(why: Refusal) -> Option<u32>
-    ensures { result ≡ row_told (told why) }
+    ensures { result ≡ row_told (refusal_code why) }
 {
     match why {
         Refusal::Unschedulable(row) => Some(row),
