@@ -24,9 +24,9 @@ one_start table trace trace' end end' ran ran' =
 
 one_trace : (s : Set) (out out' : List ℕ) (t : Transcript s out) (t' : Transcript s out') → t.trace ≡ t'.trace
 one_trace s out out' t t' =
-    choice_settles_runs s.table t.ran.start (choice_of s.queue) [] t.trace t'.trace t.end t'.end
+    choice_settles_runs (fresh s.table t.ran.start) (choice_of s.queue) [] t.trace t'.trace t.end t'.end
     (starts_sound s.table t.trace t.end t.ran) t.ran.promise.follows
-    (subst (λ (m : Meaning). Run s.table (fresh s.table m) t'.trace t'.end)
+    (subst (λ (m : Meaning). Run (fresh s.table m) t'.trace t'.end)
     (one_start s.table t.trace t'.trace t.end t'.end t.ran t'.ran) t'.ran.promise.follows)
     t.chosen t'.chosen (t.calls ∙ sym t'.calls)
 

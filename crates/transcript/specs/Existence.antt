@@ -17,7 +17,7 @@ empty_queue places = record { waiting = []; named = None; places = places }
 abbrev pub EveryScriptRuns : Type 0
 EveryScriptRuns =
     (table : List Duty) (queue : QueueName) (places : ℕ) (script : List Call)
-    → RunOf table (choice_of queue) [] (fresh table (empty_queue places)) script
+    → RunOf (choice_of queue) [] (fresh table (empty_queue places)) script
 
 -- What is printed of a text: it is, and whatever else is printed of the text is the same.
 pub record Prints (text out : List ℕ) : Type 0 where

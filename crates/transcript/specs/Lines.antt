@@ -1,6 +1,6 @@
 -- The lines of a transcript, as bytes. Each ends with byte 10.
 use Rattle.std.specs.Prelude.{ℕ, List, [], ◌++◌, Some, None, Option, codes, decimal, slice_index}
-use Rattle.model.specs.Refusals.{told}
+use Rattle.model.specs.Refusals.{refusal_code}
 use Rattle.model.specs.Words.{had_by}
 use Rattle.model.specs.declared.calls.Answer.{Answer}
 use Rattle.model.specs.declared.calls.Answer.TheVariants.{Accepted, Withdrawn, Slack as SlackIs, Ticked, Refused}
@@ -41,7 +41,7 @@ event_line clock call Accepted = []
 event_line clock call (Withdrawn units) = []
 event_line clock call (SlackIs k) = []
 event_line clock call (Ticked slack who) = tick_line clock slack who
-event_line clock call (Refused why) = refused_line clock (slice_index (told why) 0) call
+event_line clock call (Refused why) = refused_line clock (slice_index (refusal_code why) 0) call
 
 -- `WITHDRAWN WAITING)`
 abbrev pub last_totals : ℕ → ℕ → List ℕ
