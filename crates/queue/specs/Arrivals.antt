@@ -1,5 +1,5 @@
--- The errands that wait in order of arrival, and by which choice one of them is served next. All of it is reckoned
--- from a queue's history alone.
+-- The errands that wait in order of arrival, and by which choice one of them is served next. All of it is read off a
+-- queue's history alone.
 use Rattle.std.specs.Prelude.{ℕ, ◌*◌, Bool, cond, List, [], ◌∷◌, ◌++◌, map, Some, None, Option, ◌==◌, nat_lt}
 use Rattle.std.specs.List.{filter_map}
 use Rattle.std.specs.Option.{option_map}
@@ -12,11 +12,11 @@ pub record Arrival : Type 0 where
   pub put : Errand
   pub waits : Errand
 
--- The errand of the number n is gone.
+-- The errand of the number n is taken out; any other stays.
 abbrev pub taken : ℕ → Arrival → Option Arrival
 taken n a = cond (a.waits.number == n) None (Some a)
 
--- The errand of the number n has one unit less, and is gone where that was its last.
+-- A unit is spent on the errand of the number n: it has one less, and is gone where that was its last. Any other stays.
 abbrev pub spent : ℕ → Arrival → Option Arrival
 spent n a =
     cond (a.waits.number == n) (option_map (λ e. record { put = a.put; waits = e }) (one_less a.waits)) (Some a)
@@ -41,7 +41,7 @@ abbrev pub first_of : List Arrival → Option ℕ
 first_of [] = None
 first_of (a ∷ came) = Some a.waits.number
 
--- The choice of the first-come queue: of those that wait, the one that was put earliest.
+-- The choice of the queue that serves errands as they come: of those that wait, the one that was put earliest.
 abbrev pub earliest : Choice
 earliest past = first_of (arrived past)
 
@@ -51,7 +51,7 @@ pub record Rated : Type 0 where
   pub worth : ℕ
   pub units : ℕ
 
--- What arrived, rated by a worth and by units that are reckoned from the errand as it was put.
+-- What arrived, rated by the worth and the units that are given for the errand as it was put.
 abbrev pub rated : (Errand → ℕ) → (Errand → ℕ) → Arrival → Rated
 rated worth units a = record { errand = a.waits; worth = worth a.put; units = units a.put }
 
@@ -77,6 +77,6 @@ best_rated worth units past = best_of (map (rated worth units) (arrived past))
 abbrev pub by_worth : History → List Rated
 by_worth past = map (rated (λ e. e.worth) (λ e. e.units)) (arrived past)
 
--- The choice of the worth queue: the best of them.
+-- The choice of the queue by worth: the best of them.
 abbrev pub best_worth : Choice
 best_worth past = best_of (by_worth past)

@@ -1,7 +1,7 @@
--- Which errand the worth queue chooses, said without an order of search.
+-- Which errand the queue by worth chooses, said without an order of search.
 use Rattle.std.specs.Prelude.{◌≡◌, ℕ, Bool, true, not, List, ◌∷◌, ◌++◌, Some, nat_le}
 use Rattle.std.specs.List.{list_all}
-use Rattle.model.specs.Histories.{Event, History, was_put, was_spent, was_taken}
+use Rattle.model.specs.Histories.{Event, History, was_put}
 use Rattle.queue.specs.Arrivals.{Rated, best_worth, better, by_worth}
 
 -- One of those that came has the number n and is the best: it is better than each that came earlier, and none that came
@@ -18,10 +18,9 @@ pub record Best (came : List Rated) (n : ℕ) : Type 0 where
 -- What is put, if anything, has at least one unit.
 abbrev pub puts_some : Event → Bool
 puts_some (was_put e) = nat_le 1 e.units
-puts_some (was_spent n) = true
-puts_some (was_taken n) = true
+puts_some event = true
 
--- After every history in which each errand was put with at least one unit, the worth queue chooses the best of those that wait.
+-- After every history in which each errand was put with at least one unit, the queue by worth chooses the best of those that wait.
 abbrev pub BestWorthIsBest : Type 0
 BestWorthIsBest =
     (past : History) (n : ℕ) → list_all puts_some past ≡ true → best_worth past ≡ Some n → Best (by_worth past) n

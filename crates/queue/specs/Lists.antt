@@ -1,4 +1,4 @@
--- A list is the ordered list of a queue's slots: what it means, and what its free slots hold after each call.
+-- The ordered list of a queue's slots: what it means, and what its free slots hold after each call.
 use Rattle.std.specs.Prelude.{◌≡◌, ℕ, Bool, true, cond, List, [], ◌∷◌, drop, map, position, is_some, Some, None, Option, ◌==◌, nat_le, refl}
 use Rattle.std.specs.List.{cons_option, find}
 use Rattle.std.proofs.Common.{arith, ap, length-take, eq-eqb}
@@ -19,8 +19,7 @@ abbrev pub first_number : List Errand → Option ℕ
 first_number [] = None
 first_number (e ∷ es) = Some e.number
 
--- A list means that its errands wait, that the first is named, and that it has as many places as it was handed
--- slots.
+-- A list means that its errands wait, that the first is named, and that there is room for as many errands as it was handed slots.
 abbrev pub list_meaning : {R : _} → OrderedList Slot R → Meaning
 list_meaning l =
     record { waiting = errands (held l); named = first_number (errands (held l)); places = capacity l }
@@ -50,7 +49,7 @@ abbrev pub free_after : List Slot → List Slot → History → List Slot
 free_after list free [] = free
 free_after list free (x ∷ xs) = freed list free x
 
--- What a list means is sound if no number is in it twice.
+-- What a list means is sound if no number is in it twice and every errand is within its limits.
 first_named : (es : List Errand) → names_right es (first_number es) ≡ true
 first_named [] = refl
 first_named (e ∷ es) = ap (λ b. is_some (cond b (Some e) (look es e.number))) (eq-eqb e.number e.number refl)

@@ -1,4 +1,4 @@
--- By which histories the list of a queue can have come about, and that the queue then names the errand of its choice.
+-- Which histories lead to the list of a queue, and that the queue then names the errand of its choice.
 use Rattle.std.specs.Prelude.{◌≡◌, ℕ, true, false, cond, List, [], ◌∷◌, map, Some, refl}
 use Rattle.std.proofs.Common.{ap, ◌∙◌}
 use Rattle.model.specs.Histories.{History}
@@ -15,23 +15,23 @@ use Rattle.queue.specs.declared.slots.Slot.{Slot}
 abbrev pub rated_in : Slot → Rated
 rated_in s = record { errand = s.errand; worth = s.rating.worth; units = s.rating.units }
 
--- Slots in order of arrival, joining a list one by one, each before the first that it outrates.
+-- A list after slots were put there one by one, the earliest first, each before the first that it outrates.
 abbrev pub placed_all : List Slot → List Slot → List Slot
 placed_all list [] = list
 placed_all list (s ∷ ss) = placed_all (placed ranks s list) ss
 
--- After a history a list can hold the slots of those that arrived, rated by a worth for so many units as a rule reckons both,
--- had they joined it in order of arrival.
+-- The list is what a history leads to: what its slots would be had the errands that wait after the history been put there in order
+-- of arrival, each rated by the worth and the units that a rule gives for it.
 pub record Arises (worth units : Errand → ℕ) (past : History) (list : List Slot) : Type 0 where
   pub came : List Slot
   pub by_rank : list ≡ placed_all [] came
   pub arrivals : map rated_in came ≡ map (rated worth units) (arrived past)
 
--- A list came about by some history.
+-- Some history leads to the list.
 abbrev pub Arose : (worth units : Errand → ℕ) → List Slot → Type 0
 Arose worth units list = ∥ ((past : History) × Arises worth units past list) ∥₁
 
--- The first of a list that b leads is the best of b and of those that join.
+-- The first of a list is the best of those that were put there.
 first_placed_all : (b : Slot) (list came : List Slot) →
     first_number (errands (placed_all (b ∷ list) came)) ≡ Some (best_from (rated_in b) (map rated_in came)).errand.number
 first_placed_all b list [] = refl

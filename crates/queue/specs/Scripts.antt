@@ -1,4 +1,4 @@
--- Scripts: lists of calls, and runs of them.
+-- Scripts, which are lists of calls, and runs of them.
 use Rattle.std.specs.Prelude.{◌≡◌, List}
 use Rattle.model.specs.Histories.{Choice, Chosen, History}
 use Rattle.model.specs.Machine.{State}

@@ -1,4 +1,4 @@
--- Slots as they are made for an errand that is put.
+-- Slots as they are made for an errand that is put, and with other units left.
 use Rattle.std.specs.Prelude.{◌≡◌, ℕ, ◌≤◌, true, false, ◌&&◌, [], ◌∷◌, Ok, Err, Result, nat_le}
 use Rattle.std.proofs.Common.{leb-true}
 use Rattle.std.proofs.lemmas.Bool.{and_parts}

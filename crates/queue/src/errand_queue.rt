@@ -14,22 +14,26 @@ use list::OrderedList;
 use model::{Errand, Refusal};
 use std::marker::PhantomData;
 
-// A queue that serves first the errand that its rule rates best, and of those rated alike the one put first. Its
-// list stands in the order in which its errands are served.
+/// A queue that serves first the errand that its rule rates best, and of those rated alike the one put first. It keeps its errands in
+/// the slots that it is handed, so that it needs no memory of its own.
 #[derive(Drop)]
 pub struct ErrandQueue<'a, R: Rule> {
+    // The errands that wait, in the order in which they are served.
     list: OrderedList<'a, Slot>,
     // The slots past its capacity. The queue keeps them for its contracts: no call writes one of them.
     beyond: &'a mut [Slot],
     rule: PhantomData<R>,
+    // No number waits twice, and every errand is within its limits.
     ghost once: { distinct (errands (held list)) ≡ true },
+    // Some history led to the list.
     pub ghost arose: { Arose R.worth R.units (held list) },
 }
 
-// The queue that serves errands as they come.
+/// The queue that serves errands as they come.
 pub type FirstCome<'a> = ErrandQueue<'a, Alike>;
 
-// The queue that serves the errand with the most worth for its units.
+/// The queue that serves first the errand with the most worth for the units that it was put with, and of those with as much the one
+/// that was put first.
 pub type ByWorth<'a> = ErrandQueue<'a, WorthForUnits>;
 
 // A queue has room for at most so many errands.
@@ -43,7 +47,8 @@ fn place_of(slots: &[Slot], number: u32) -> Option<usize>
 }
 
 impl<'a, R: Rule> ErrandQueue<'a, R> {
-    // An empty queue over the slots, of which it uses at most the first 1,024.
+    /// An empty queue with room for as many errands as there are slots, but for at most 1,024. It leaves the slots as they are, and
+    /// no call ever writes one past the first 1,024.
     pub fn new(slots: &'a mut [Slot]) -> ErrandQueue<'a, R>
         ensures empty { held result.list ≡ [] }
         ensures history { Arises R.worth R.units [] (held result.list) }
@@ -125,8 +130,8 @@ impl<'a, R: Rule> Queue for ErrandQueue<'a, R> {
     }
 }
 
-// After any number of refused calls and of spends that find nothing, one after the other, the list of a queue and every slot
-// handed to it are as they were.
+/// After any number of refused calls and of spends that find nothing, one after the other, the list of a queue and every slot that it
+/// was handed are as they were.
 pub fn left_as_it_was<R: Rule>()
     ensures { (q r : ErrandQueue R R.Rule) → Left ⟦<ErrandQueue<'static, R> as Queue>⟧.untouched q r → (r.list ≡ q.list) × (r.beyond ≡ q.beyond) }
 {}

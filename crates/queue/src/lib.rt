@@ -1,4 +1,4 @@
-// Queues of errands: what every queue answers, and a queue over handed slots, by a rule for how it rates errands.
+// Queues of errands: what every queue answers, and a queue over slots that it is handed, by a rule for how it rates errands.
 #![tactic(auto)]
 
 mod errand_queue;

@@ -8,7 +8,7 @@ use super::rules::Rule;
 use list::Ranked;
 use model::{Errand, Refusal};
 
-// A place of a queue: the errand, with its units left, and its rating, which stays as it was when it was put.
+/// A slot of a queue: an errand with its units left, and its rating, which stays as it was when the errand was put.
 #[derive(Clone, Copy)]
 pub struct Slot {
     errand: Errand,
@@ -27,8 +27,10 @@ impl Ranked for Slot {
     }
 }
 
+// An errand has at most so many units.
 const MOST_UNITS: u32 = 4096;
 
+// An errand is worth at most so much.
 const MOST_WORTH: u32 = 65535;
 
 // At least one unit, and no more units and worth than an errand may have.
@@ -39,7 +41,7 @@ fn within_limits(errand: &Errand) -> bool
 }
 
 impl Slot {
-    // A slot to hand to a queue: no queue reads it before an errand is put there.
+    /// A slot to hand to a queue. It holds the errand 0 of 1 unit and no worth, which no queue reads before it puts an errand there.
     pub fn free() -> Slot
         ensures { HoldsErrand (record { number = 0; units = 1; worth = 0 }) 0 1 result }
     {
@@ -53,7 +55,7 @@ impl Slot {
         }
     }
 
-    // A slot for an errand that is rated by a rule.
+    // A slot for an errand that is rated by a rule. Refused 8 where the errand breaks its limits.
     pub(crate) fn rated<R: Rule>(errand: Errand) -> Result<Slot, Refusal>
         ensures { Made errand (R.worth errand) (R.units errand) result }
     {
