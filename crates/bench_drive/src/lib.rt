@@ -21,7 +21,7 @@ fn table_in(bytes: &[u8]) -> Setting {
                 deadline: number(c, d),
                 separation: number(e, f),
             };
-            let _ = setting.add(setting.rows().len() as u32, duty);
+            let _ = setting.add(setting.duties().len() as u32, duty);
         }
     }
     setting
@@ -41,7 +41,7 @@ fn release_all(work: &mut Workload, rows: u32, finishes: bool) {
 #[unsafe(no_mangle)]
 pub extern "C" fn bench_drive(bytes: &[u8], ticks: u32, finish: u32) -> u64 {
     let setting = table_in(bytes);
-    let rows = setting.rows().len() as u32;
+    let rows = setting.duties().len() as u32;
     let mut work = Workload::start(setting);
     let mut sum: u64 = 0;
     for _ in 0..ticks {

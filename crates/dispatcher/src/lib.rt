@@ -1,7 +1,6 @@
 // The dispatcher: it gives each tick to a duty or, where that can hurt nobody, to an errand of any queue.
 #![tactic(auto)]
 
-mod calls;
 mod dispatchers;
 mod entries;
 mod runs;

@@ -1,7 +1,6 @@
 // The duty table: a setting to which duties are added, each addition admitted by response-time analysis.
 #![tactic(auto)]
 
-mod adding;
 mod analysis;
 mod settings;
 

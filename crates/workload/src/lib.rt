@@ -2,7 +2,6 @@
 #![tactic(auto)]
 
 mod acts;
-mod asking;
 mod slack;
 mod streams;
 mod stretches;

@@ -67,7 +67,7 @@ impl Workload {
         // The streams of the rows so far.
         let mut streams: ArrayVec<Stream, MOST_ROWS> = ArrayVec::new();
         let mut least: u32 = 65535;
-        for (&duty, &row) in self.setting.rows().iter().zip(self.rows()) {
+        for (&duty, &row) in self.setting.duties().iter().zip(self.rows()) {
             let ahead = Ahead {
                 duty,
                 row,

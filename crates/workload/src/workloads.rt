@@ -1,10 +1,13 @@
-ghost use Rattle.std.specs.Prelude.{◌≡◌, ◌-◌, true, length, drop, replicate};
+ghost use Rattle.std.specs.Prelude.{◌≡◌, ◌-◌, ◌<◌, OnErr, true, length, drop, replicate};
 ghost use Rattle.model.specs.Kept.{kept};
+ghost use Rattle.model.specs.Machine.{RowCalled, WorkTicks, duty_tick, duty_turn, first_ready, fresh_work, last_clock, later};
 ghost use Rattle.model.specs.declared.rows.Row.TheVariants.{Idle};
+ghost use Rattle.model.specs.declared.rows.RowCall.TheVariants.{Release, Done};
 ghost use Rattle.table.specs.Settings.{table_of};
 ghost use Rattle.workload.specs.Slots.{work_of};
 
-use model::Row;
+use crate::acts::act;
+use model::{Refusal, Row, RowCall, Who};
 use table::{MOST_ROWS, Setting};
 
 // A table, the state of each of its rows, and the clock. None can exist in which a row's slack is below 0.
@@ -18,4 +21,103 @@ pub struct Workload {
     ghost keeps: { kept (work_of (table_of setting) clock rows) ≡ true },
     // The slots that are not in use stay as they were made.
     ghost unused: { drop (length (table_of setting)) rows ≡ replicate (16 - length (table_of setting)) (Idle 0) },
+}
+
+impl Workload {
+    ghost use Rattle.workload.specs.Workloads.{work_in};
+
+    // At the start the clock is 0 and every row is idle and may be released at once.
+    pub fn start(setting: Setting) -> Workload
+        ensures work { work_in result ≡ fresh_work (table_of setting) }
+        ensures setting { result.setting ≡ setting }
+    {
+        Workload {
+            setting,
+            rows: [Row::Idle { earliest: 0 }; MOST_ROWS],
+            clock: 0,
+        }
+    }
+
+    pub fn release(&mut self, row: u32) -> Result<(), Refusal>
+        ensures step { RowCalled (work_in self.old) row Release result (work_in self.new) }
+        ensures setting { self.new.setting ≡ self.old.setting }
+        ensures refused { OnErr result (self.new ≡ self.old) }
+    {
+        self.ask(row, RowCall::Release)
+    }
+
+    pub fn done(&mut self, row: u32) -> Result<(), Refusal>
+        ensures step { RowCalled (work_in self.old) row Done result (work_in self.new) }
+        ensures setting { self.new.setting ≡ self.old.setting }
+        ensures refused { OnErr result (self.new ≡ self.old) }
+    {
+        self.ask(row, RowCall::Done)
+    }
+
+    fn ask(&mut self, row: u32, call: RowCall) -> Result<(), Refusal>
+        ensures step { RowCalled (work_in self.old) row call result (work_in self.new) }
+        ensures setting { self.new.setting ≡ self.old.setting }
+        ensures refused { OnErr result (self.new ≡ self.old) }
+    {
+        let row = row as usize;
+        let Some(&duty) = self.setting.duties().get(row) else {
+            return Err(Refusal::NoSuchRow);
+        };
+        act(&mut self.rows[row], call, duty, self.clock)
+    }
+
+    // One tick. It is to spare exactly if an errand waits and the slack is at least 1; otherwise the first ready row
+    // has it, or nobody.
+    pub fn tick(&mut self, errand_waits: bool) -> Result<(u32, Option<Who>), Refusal>
+        ensures step { WorkTicks (work_in self.old) errand_waits result (work_in self.new) }
+        ensures setting { self.new.setting ≡ self.old.setting }
+        ensures refused { OnErr result (self.new ≡ self.old) }
+    {
+        if self.clock == u32::MAX {
+            return Err(Refusal::ClockEnded);
+        }
+        let slack = self.slack();
+        let turn = if errand_waits && slack >= 1 {
+            self.clock += 1;
+            None
+        } else {
+            Some(self.run())
+        };
+        Ok((slack, turn))
+    }
+
+    // The first ready row has a tick, or nobody.
+    fn run(&mut self) -> Who
+        requires { self.old.clock < last_clock }
+        ensures who { result ≡ duty_turn (work_in self.old) }
+        ensures work { work_in self.new ≡ later (duty_tick (work_in self.old)) }
+        ensures setting { self.new.setting ≡ self.old.setting }
+    {
+        let who = match self.first_ready() {
+            Some(row) => {
+                let row = row as u32;
+                let _ = self.ask(row, RowCall::Run);
+                Who::Duty(row)
+            }
+            None => Who::Nobody,
+        };
+        self.clock += 1;
+        who
+    }
+
+    // The first ready row.
+    fn first_ready(&self) -> Option<usize>
+        ensures { result ≡ first_ready (work_in self.now).rows }
+    {
+        self.rows()
+            .iter()
+            .position(|row| matches!(row, Row::Ready { .. }))
+    }
+
+    // The states of the table's rows.
+    pub(crate) fn rows(&self) -> &[Row]
+        ensures { result.now ≡ (work_in self.now).rows }
+    {
+        &self.rows[..self.setting.duties().len()]
+    }
 }

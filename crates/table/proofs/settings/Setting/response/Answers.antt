@@ -21,4 +21,4 @@ returns c =
     let table = table_of c.args.self.now in
     subst (Responds table c.args.row) (sym c.ok_or.ensures.value)
     (responds table c.args.row _ c.args.self.now.admits
-    (c.response_time.ensures ∙ ap (λ (rows : List Duty). response rows c.args.row) c.rows.ensures))
+    (c.response_time.ensures ∙ ap (λ (duties : List Duty). response duties c.args.row) c.duties.ensures))

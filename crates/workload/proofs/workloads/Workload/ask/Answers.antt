@@ -27,9 +27,9 @@ invariant_of-self c =
     let w = c.args.self.now in
     let table = table_of w.setting in
     let found = c.in-Some.ensures.lookup.3 in
-    let inside : c.args.row < length table = omega (arith, found.0, ap length c.rows.ensures) in
+    let inside : c.args.row < length table = omega (arith, found.0, ap length c.duties.ensures) in
     record {
-      keeps = ap (λ slots. kept (work_of table w.clock slots)) (left w c.args.row c.args.call _ _ _ c.rows.ensures (found.1 _) c.act.ensures.leaves)
+      keeps = ap (λ slots. kept (work_of table w.clock slots)) (left w c.args.row c.args.call _ _ _ c.duties.ensures (found.1 _) c.act.ensures.leaves)
           ∙ (asked_keeps table w.clock w.rows c.args.row c.args.call (keeps_in w) inside).work_kept;
       unused = drop-set-lt (length table) w.rows c.args.row _ inside ∙ w.unused;
     }
@@ -38,13 +38,13 @@ pub returns : goal.returns
 returns c =
     let w = c.args.self.now in
     let found = c.in-Some.ensures.lookup.3 in
-    let inside : c.args.row < length (table_of w.setting) = omega (arith, found.0, ap length c.rows.ensures) in
+    let inside : c.args.row < length (table_of w.setting) = omega (arith, found.0, ap length c.duties.ensures) in
     let (called, stays) =
     asked_called w _ c.args.row c.args.call c.act.result
     (record {
       inside = inside;
       answers = c.act.ensures.answers;
-      left = left w c.args.row c.args.call _ _ _ c.rows.ensures (found.1 _) c.act.ensures.leaves;
+      left = left w c.args.row c.args.call _ _ _ c.duties.ensures (found.1 _) c.act.ensures.leaves;
       setting = refl;
       clock = refl;
     }) in
