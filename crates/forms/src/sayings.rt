@@ -1,3 +1,18 @@
+// What a line says: its word decides which items it wants; or the first fault of its letters or of its form.
+ghost use Rattle.std.specs.Prelude.{◌≡◌};
+ghost use Rattle.std.specs.Option.{option_map};
+ghost use Rattle.forms.specs.Faults.{forms_told, reported};
+ghost use Rattle.forms.specs.Items.{items_left, numbers};
+ghost use Rattle.forms.specs.Lines.{line_of};
+ghost use Rattle.forms.specs.Sayings.{at_said, duty_said, end_fits, end_said, form_judged, queue_said, said, sheet_of_numbers, worded};
+
+use crate::calls::some_calls;
+use crate::faults::FormsFault;
+use crate::items::Items;
+use crate::letters::letters;
+use crate::lines::{Line, Part};
+use crate::numbers::{is_number, numbers, numbers_fit, value};
+use crate::shapes::{is_form, is_remark};
 use model::Duty;
 
 // The queue in which errands wait.
@@ -19,4 +34,104 @@ pub enum Said {
     // The number of ticks.
     End(u32),
     Remark,
+}
+
+fn sheet_said(items: Items) -> Option<Said>
+    ensures { result ≡ sheet_of_numbers (numbers 1 (items_left items.entry)) }
+{
+    let [version] = numbers::<1>(items)?;
+    (version == 1).then_some(Said::Sheet)
+}
+
+fn duty_said(items: Items) -> Option<Said>
+    ensures { result ≡ option_map duty_said (numbers 4 (items_left items.entry)) }
+{
+    let [place, cost, deadline, separation] = numbers::<4>(items)?;
+    Some(Said::Duty(
+        place,
+        Duty {
+            cost,
+            deadline,
+            separation,
+        },
+    ))
+}
+
+fn queue_said(mut items: Items) -> Option<Said>
+    ensures { result ≡ queue_said (items_left items.entry) }
+{
+    let name = items.next()?;
+    match (name.bytes, items.next()) {
+        (b"first", None) => Some(Said::Queue(QueueName::First)),
+        (b"worth", None) => Some(Said::Queue(QueueName::Worth)),
+        _ => None,
+    }
+}
+
+fn at_said(mut items: Items) -> Option<Said>
+    ensures { result ≡ at_said (items_left items.entry) }
+{
+    let clock = items.next()?;
+    (is_number(clock.bytes) && some_calls(items)).then(|| Said::At(value(clock.bytes)))
+}
+
+fn end_said(items: Items) -> Option<Said>
+    ensures { result ≡ option_map end_said (numbers 1 (items_left items.entry)) }
+{
+    let [ticks] = numbers::<1>(items)?;
+    Some(Said::End(ticks))
+}
+
+// What each word of a line wants.
+fn worded(word: &[u8], items: Items) -> Option<Said>
+    ensures { result ≡ worded word.now (items_left items.entry) }
+{
+    match word {
+        b"sheet" => sheet_said(items),
+        b"duty" => duty_said(items),
+        b"queue" => queue_said(items),
+        b"at" => at_said(items),
+        b"end" => end_said(items),
+        _ => None,
+    }
+}
+
+// What a line that is a form says, if its items are what its word wants.
+fn said_in(part: Part) -> Option<Said>
+    ensures { result ≡ said part.entry.bytes.now }
+{
+    if is_remark(part.bytes) {
+        return Some(Said::Remark);
+    }
+    let mut items = Items::new(part);
+    let word = items.next()?;
+    worded(word.bytes, items)
+}
+
+// The most ticks that a run may have.
+const MOST_TICKS: u32 = 10000;
+
+fn end_fits(what: Said) -> bool
+    ensures { result ≡ end_fits what }
+{
+    match what {
+        Said::End(ticks) => ticks <= MOST_TICKS,
+        _ => true,
+    }
+}
+
+pub fn form_said(line: Line) -> Result<Said, FormsFault>
+    ensures { reported forms_told result ≡ form_judged (line_of line.entry) }
+{
+    letters(line)?;
+    let form = line.part;
+    if !line.ended || !is_form(form.bytes) {
+        return Err(FormsFault::NotAForm(form.place));
+    }
+    let said = said_in(form).ok_or(FormsFault::WrongItems(form.place))?;
+    if is_remark(form.bytes) || numbers_fit(form.bytes) && end_fits(said) {
+        Ok(said)
+    } else {
+        Err(FormsFault::TooLarge(form.place))
+    }
 }

@@ -6,7 +6,7 @@ use Rattle.forms.specs.Faults.{Fault, fault, judged, unless}
 use Rattle.forms.specs.Lines.{first_place, lines}
 use Rattle.sheet.specs.Ats.{AtLine, at_of}
 use Rattle.sheet.specs.Orders.{SoFar, lines_judged, nothing_read}
-use Rattle.sheet.specs.declared.drafts.Sheet.{Sheet}
+use Rattle.sheet.specs.declared.sheets.Sheet.{Sheet}
 use Rattle.sheet.specs.declared.drafts.Stage.{Stage}
 use Rattle.sheet.specs.declared.drafts.Stage.TheVariants.{Start, Duties, Ats, Over}
 use Rattle.forms.specs.declared.faults.Layer.TheVariants.{Sheet as SheetLayer}

@@ -4,15 +4,11 @@
 
 mod ats;
 mod drafts;
-mod entering;
 mod faults;
-mod passing;
-mod reading;
-mod replaying;
+mod sheets;
 #[cfg(test)]
 mod tests;
 
 pub use ats::{At, Calls};
-pub use drafts::Sheet;
 pub use faults::{SheetFault, TableFault};
-pub use reading::{read, read_by_rules, sheets_hold};
+pub use sheets::{Sheet, read, read_by_rules, sheets_hold};

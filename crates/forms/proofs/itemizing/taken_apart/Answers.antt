@@ -1,5 +1,0 @@
-use Rattle.forms.proofs.Apart.{taken_apart}
-use Rattle.forms.proofs.itemizing.taken_apart.Goals as goal
-
-pub returns : goal.returns
-returns c = taken_apart

@@ -1,0 +1,142 @@
+// Sheets: the lines of a text enter a draft one after the other, and a draft with all its lines is a sheet.
+ghost use Rattle.std.specs.Prelude.{◌≡◌, map};
+ghost use Rattle.table.specs.Settings.{table_of};
+ghost use Rattle.forms.specs.Faults.{failing};
+ghost use Rattle.forms.specs.Lines.{lines_left};
+ghost use Rattle.sheet.specs.Ats.{at_of};
+ghost use Rattle.sheet.specs.Laws.{SheetsHold};
+ghost use Rattle.sheet.specs.Orders.{drafted, lines_judged, nothing_read, so_far};
+ghost use Rattle.sheet.specs.Rules.{ByRules};
+ghost use Rattle.sheet.specs.Sheets.{late, missing_line, outcome, set_by, sheet_of, too_long, whole};
+ghost use Rattle.sheet.specs.Told.{sheet_told, table_told};
+
+use crate::ats::At;
+use crate::drafts::{Draft, Stage};
+use crate::faults::{SheetFault, TableFault};
+use arrayvec::ArrayVec;
+use forms::{Place, QueueName, Reader};
+use table::Setting;
+
+// The most at-lines that a sheet may have.
+const MOST_ATS: usize = 256;
+
+// A sheet that was read: the table, the queue, the at-lines in the order of their lines, and the number of ticks.
+#[derive(Drop)]
+pub struct Sheet<'a> {
+    pub(crate) setting: Setting,
+    pub(crate) queue: QueueName,
+    pub(crate) ats: ArrayVec<At<'a>, MOST_ATS>,
+    pub(crate) ticks: u32,
+}
+
+impl<'a> Sheet<'a> {
+    // The table, for its rows and response times.
+    pub fn setting(&self) -> &Setting
+        ensures { table_of result.now ≡ (set_by self.now).table }
+    {
+        &self.setting
+    }
+
+    // The table, to start a dispatcher with.
+    pub fn into_setting(self) -> Setting
+        ensures { table_of result ≡ (set_by self.entry).table }
+    {
+        self.setting
+    }
+
+    // The queue in which errands wait.
+    pub fn queue(&self) -> QueueName
+        ensures { result ≡ (set_by self.now).queue }
+    {
+        self.queue
+    }
+
+    // The at-lines, in the order of their lines.
+    pub fn ats(&self) -> &[At<'a>]
+        ensures { map at_of result.now ≡ (set_by self.now).ats }
+    {
+        self.ats.as_slice()
+    }
+
+    // The number of ticks.
+    pub fn ticks(&self) -> u32
+        ensures { result ≡ (set_by self.now).ticks }
+    {
+        self.ticks
+    }
+}
+
+// The longest text that is read.
+const LONGEST: usize = 32768;
+
+// No at-line is late: each comes before the end.
+fn on_time(ats: &[At], ticks: u32) -> Result<(), SheetFault>
+    ensures { failing sheet_told result ≡ late ticks (map at_of ats.now) }
+{
+    match ats.iter().find(|at| at.clock >= ticks) {
+        None => Ok(()),
+        Some(at) => Err(SheetFault::OutOfOrder(at.part.place)),
+    }
+}
+
+// One past the last line, at the text's length.
+fn missing_line(text: &[u8]) -> Place
+    ensures { result ≡ missing_line text.now }
+{
+    Place {
+        line: 1 + Reader::new(text).count(),
+        byte: text.len(),
+    }
+}
+
+// The sheet that a draft has become once all lines of its text were read; the end line may be missing.
+fn finished<'a>(draft: Draft<'a>, text: &[u8]) -> Result<Sheet<'a>, SheetFault>
+    ensures { outcome sheet_told result ≡ whole (missing_line text.now) (so_far draft.entry) }
+{
+    let Stage::Over = draft.stage else {
+        return Err(SheetFault::OutOfOrder(missing_line(text)));
+    };
+    on_time(draft.sheet.ats(), draft.sheet.ticks())?;
+    Ok(draft.sheet)
+}
+
+// The text is not too long.
+fn short(text: &[u8]) -> Result<(), SheetFault>
+    ensures { failing sheet_told result ≡ too_long text.now }
+{
+    if text.len() <= LONGEST {
+        Ok(())
+    } else {
+        Err(SheetFault::TooLong(Place { line: 1, byte: 0 }))
+    }
+}
+
+// The draft that every line has entered, or the fault of the first that does not.
+fn entered<'a>(lines: Reader<'a>) -> Result<Draft<'a>, TableFault>
+    ensures { drafted table_told result ≡ lines_judged nothing_read (lines_left lines.entry) }
+{
+    let mut draft = Draft::new();
+    for line in lines {
+        draft.enter(line)?;
+    }
+    Ok(draft)
+}
+
+// The sheet that a text is, or its fault.
+pub fn read<'a>(text: &'a [u8]) -> Result<Sheet<'a>, TableFault>
+    ensures { outcome table_told result ≡ sheet_of text.now }
+{
+    short(text)?;
+    let draft = entered(Reader::new(text))?;
+    Ok(finished(draft, text)?)
+}
+
+// A text is read as the rules say: as a sheet, or with the one fault that counts.
+pub fn read_by_rules()
+    ensures { ByRules }
+{}
+
+// In every sheet that is read, each at-line has calls, all of which are handed out, and comes before the end.
+pub fn sheets_hold()
+    ensures { SheetsHold }
+{}
