@@ -13,10 +13,10 @@ use Rattle.model.specs.declared.duties.Duty.{Duty}
 use Rattle.model.specs.declared.errands.Errand.{Errand}
 use Rattle.sheet.specs.Sheets.{Set}
 use Rattle.transcript.specs.Renderings.{duty_lines, left_over, run_lines}
-use Rattle.transcript.specs.Schedules.{script_of}
-use Rattle.transcript.specs.Transcripts.{Ran, Transcript, choice_of}
+use Rattle.transcript.specs.Scripts.{script_of}
+use Rattle.transcript.specs.Transcripts.{RunFromEmpty, Transcript, choice_of}
 
-module _ (table : List Duty) (trace : Trace) (end : State) (ran : Ran table trace end) where
+module _ (table : List Duty) (trace : Trace) (end : State) (ran : RunFromEmpty table trace end) where
   pub starts_sound : Sound ran.start
   starts_sound =
       record {
@@ -39,7 +39,7 @@ calls_of_script (e ∷ es) = ap (λ (cs : List Call). e.call ∷ cs) (calls_of_s
 
 -- The parts of a transcript, put together.
 pub transcript_of : (s : Set) (script : List Entry) (end : State) (start duties out : List ℕ)
-    → Ran s.table (trace_of script) end
+    → RunFromEmpty s.table (trace_of script) end
     → Chosen (choice_of s.queue) [] (trace_of script)
     → calls_of script ≡ script_of s.ats s.ticks
     → start ≡ []

@@ -16,7 +16,7 @@ use Rattle.sheet.specs.Sheets.{Set, sheet_of}
 use Rattle.transcript.specs.Existence.{EveryScriptRuns, ExactlyOneTranscript, empty_queue}
 use Rattle.transcript.specs.Lines.{fault_line}
 use Rattle.transcript.specs.Renderings.{rendered}
-use Rattle.transcript.specs.Schedules.{script_of}
+use Rattle.transcript.specs.Scripts.{script_of}
 use Rattle.transcript.specs.Transcripts.{PrintedOf, Transcript, choice_of}
 use Rattle.transcript.proofs.Settled.{one_transcript}
 

@@ -9,11 +9,11 @@ use Rattle.model.specs.declared.errands.Errand.{Errand}
 use Rattle.forms.specs.Faults.{Fault}
 use Rattle.sheet.specs.Sheets.{Set, sheet_of}
 use Rattle.transcript.specs.Renderings.{duty_lines, left_over, run_lines}
-use Rattle.transcript.specs.Transcripts.{OneTranscript, PrintedOf, Ran, Transcript, choice_of}
+use Rattle.transcript.specs.Transcripts.{OneTranscript, PrintedOf, RunFromEmpty, Transcript, choice_of}
 use Rattle.transcript.proofs.Balanced.{left_over_waits, starts_sound}
 
 -- Two runs of a table begin over the same queue.
-one_start : (table : List Duty) (trace trace' : Trace) (end end' : State) (ran : Ran table trace end) (ran' : Ran table trace' end') →
+one_start : (table : List Duty) (trace trace' : Trace) (end end' : State) (ran : RunFromEmpty table trace end) (ran' : RunFromEmpty table trace' end') →
     ran'.start ≡ ran.start
 one_start table trace trace' end end' ran ran' =
     ap (λ (es : List Errand). record { waiting = es; named = ran'.start.named; places = ran'.start.places }) (ran'.empty ∙ sym ran.empty)

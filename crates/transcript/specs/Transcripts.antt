@@ -13,11 +13,11 @@ use Rattle.forms.specs.declared.sayings.QueueName.{QueueName}
 use Rattle.forms.specs.declared.sayings.QueueName.TheVariants.{First, Worth}
 use Rattle.transcript.specs.Lines.{fault_line}
 use Rattle.transcript.specs.Renderings.{rendered}
-use Rattle.transcript.specs.Schedules.{script_of}
+use Rattle.transcript.specs.Scripts.{script_of}
 
 -- A trace over a table is that of a run, with all that is promised of one, from the fresh state over a queue in which
--- nothing waits, that names nobody and that has 64 places.
-pub record Ran (table : List Duty) (trace : Trace) (end : State) : Type 0 where
+-- nothing waits, that names nobody and that has room for 64 errands.
+pub record RunFromEmpty (table : List Duty) (trace : Trace) (end : State) : Type 0 where
   pub start : Meaning
   pub empty : start.waiting ≡ []
   pub names_none : start.named ≡ None
@@ -35,7 +35,7 @@ choice_of Worth = best_worth
 pub record Transcript (s : Set) (out : List ℕ) : Type 0 where
   pub trace : Trace
   pub end : State
-  pub ran : Ran s.table trace end
+  pub ran : RunFromEmpty s.table trace end
   pub chosen : Chosen (choice_of s.queue) [] trace
   pub calls : calls_in trace ≡ script_of s.ats s.ticks
   pub shows : out ≡ rendered s.table trace end
