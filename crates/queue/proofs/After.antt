@@ -2,6 +2,11 @@
 use Rattle.std.proofs.Common.{ℕ, ◌-◌, cond, eqb, leb, List, [], ◌∷◌, Some, None, Option}
 use Rattle.queue.specs.Slots.{with_units}
 use Rattle.queue.specs.declared.slots.Slot.{Slot}
+use Rattle.queue.proofs.AtNumber.{at_number}
+
+-- The slot with one unit less, or none where that was its last.
+abbrev pub less_slot : Slot → Option Slot
+less_slot s = cond (leb s.errand.units 1) None (Some (with_units s (s.errand.units - 1)))
 
 -- After a unit was spent on the first: it has one less, or is gone where that was its last.
 abbrev pub first_spent : List Slot → List Slot
@@ -15,10 +20,8 @@ without n (s ∷ ss) = cond (eqb s.errand.number n) ss (s ∷ without n ss)
 
 -- The slot of the number n is gone.
 abbrev pub taken_slot : ℕ → Slot → Option Slot
-taken_slot n s = cond (eqb s.errand.number n) None (Some s)
+taken_slot = at_number (λ (s : Slot). s.errand.number) (λ _. None)
 
 -- The slot of the number n has one unit less, and is gone where that was its last.
 abbrev pub spent_slot : ℕ → Slot → Option Slot
-spent_slot n s =
-    cond (eqb s.errand.number n)
-    (cond (leb s.errand.units 1) None (Some (with_units s (s.errand.units - 1)))) (Some s)
+spent_slot = at_number (λ (s : Slot). s.errand.number) less_slot

@@ -1,13 +1,15 @@
--- The worth queue chooses the best of those that wait.
-use Rattle.std.proofs.Common.{◌≡◌, ℕ, ◌≤◌, Bool, true, false, not, ◌&&◌, eqb, leb, List, [], ◌∷◌, ◌++◌, map, Some, None, Option, sym, refl, ap, ◌∙◌, subst, ⊎_elim, append_assoc, append-nil, le_of_lt, arith}
+-- The queue by worth chooses the best of those that wait. Of those seen so far one is the best at each step of the search: it is better
+-- than all before it, and none behind it is better. That nothing has a worth for 0 units makes "is not better than" transitive.
+use Rattle.std.proofs.Common.{◌≡◌, ℕ, ◌≤◌, Bool, true, false, not, ◌&&◌, leb, List, [], ◌∷◌, ◌++◌, map, Some, None, Option, sym, refl, ap, ◌∙◌, subst, ⊎_elim, append_assoc, append-nil, le_of_lt, arith}
 use Rattle.std.specs.List.{cons_option, filter_map, list_all}
 use Rattle.std.specs.Option.{option_map}
 use Rattle.std.proofs.lemmas.Bool.{and_from, and_parts, both_ways, cases_Bool, cond_both, leb-true, le-ltb, ltb-false, ltb-true, not_from_false, not-true}
 use Rattle.model.specs.Histories.{Event, History, was_put, was_spent, was_taken}
 use Rattle.model.specs.Queues.{one_less}
-use Rattle.model.specs.declared.errands.Errand.{Errand}
 use Rattle.queue.specs.Arrivals.{Arrival, Rated, after, after_all, arrived, best_from, best_of, better, by_worth, taken, rated, spent}
 use Rattle.queue.specs.Best.{Best, BestWorthIsBest, puts_some}
+use Rattle.queue.proofs.AtNumber.{Keeps, keeps_at_number}
+use Rattle.queue.proofs.Waiting.{less_waits, waits_as}
 use Rattle.queue.specs.Ranks.{no_more_worth_transitive}
 
 all_join : {A : Type 0} (p : A → Bool) (xs ys : List A) → list_all p xs ≡ true → list_all p ys ≡ true → list_all p (xs ++ ys) ≡ true
@@ -94,41 +96,35 @@ abbrev put_some : Arrival → Bool
 put_some a = leb 1 a.put.units
 
 -- Those that wait were put.
-turned_some : (turn : Arrival → Option Arrival) → ((a b : Arrival) → turn a ≡ Some b → b.put ≡ a.put) → (came : List Arrival) →
-    list_all put_some came ≡ true → list_all put_some (filter_map turn came) ≡ true
-turned_some turn keeps [] some = refl
-turned_some turn keeps (a ∷ came) some =
+changed_some : (change : Arrival → Option Arrival) → Keeps (λ (a : Arrival). a.put) change → (came : List Arrival) →
+    list_all put_some came ≡ true → list_all put_some (filter_map change came) ≡ true
+changed_some change keeps [] some = refl
+changed_some change keeps (a ∷ came) some =
     let p = and_parts _ _ some in
-    let rest = turned_some turn keeps came p.1 in
-    (elim (turn a) as (λ o. turn a ≡ o → list_all put_some (cons_option o (filter_map turn came)) ≡ true) [
+    let rest = changed_some change keeps came p.1 in
+    (elim (change a) as (λ o. change a ≡ o → list_all put_some (cons_option o (filter_map change came)) ≡ true) [
       | None ↦ λ _. rest
       | Some b ↦ λ e. and_from _ _ (ap (λ put. leb 1 put.units) (keeps a b e) ∙ p.0) rest
     ])
     refl
 
-taken_keeps_put : (n : ℕ) (a b : Arrival) → taken n a ≡ Some b → b.put ≡ a.put
-taken_keeps_put n a b =
-    cond_both (eqb a.waits.number n) None (Some a) (λ o. o ≡ Some b → b.put ≡ a.put)
-    (λ _ e. cc)
-    (λ _ e. let same : a ≡ b = cc in ap (λ x. x.put) (sym same))
+taken_keeps_put : (n : ℕ) → Keeps (λ (a : Arrival). a.put) (taken n)
+taken_keeps_put = keeps_at_number (λ (a : Arrival). a.put) (λ (a : Arrival). a.waits.number) (λ _. None) (λ a b is. cc)
 
-spent_keeps_put : (n : ℕ) (a b : Arrival) → spent n a ≡ Some b → b.put ≡ a.put
-spent_keeps_put n a b =
-    let waits-as : Errand → Arrival = λ e. record { put = a.put; waits = e } in
-    let P : Option Arrival → Type 0 = λ o. o ≡ Some b → b.put ≡ a.put in
-    cond_both (eqb a.waits.number n) (option_map waits-as (one_less a.waits)) (Some a) P
-    (λ _. (elim (one_less a.waits) as (λ o. P (option_map waits-as o)) [
-      | None ↦ λ e. cc
-      | Some x ↦ λ e. let same : waits-as x ≡ b = cc in ap (λ y. y.put) (sym same)
+spent_keeps_put : (n : ℕ) → Keeps (λ (a : Arrival). a.put) (spent n)
+spent_keeps_put =
+    keeps_at_number (λ (a : Arrival). a.put) (λ (a : Arrival). a.waits.number) less_waits
+    (λ a b. (elim (one_less a.waits) as (λ o. option_map (waits_as a) o ≡ Some b → b.put ≡ a.put) [
+      | None ↦ λ is. cc
+      | Some e ↦ λ is. let same : waits_as a e ≡ b = cc in ap (λ y. y.put) (sym same)
     ]))
-    (λ _ e. let same : a ≡ b = cc in ap (λ x. x.put) (sym same))
 
 after_some : (came : List Arrival) (x : Event) → puts_some x ≡ true → list_all put_some came ≡ true →
     list_all put_some (after came x) ≡ true
 after_some came (was_put e) h some =
     all_join put_some came (record { put = e; waits = e } ∷ []) some (and_from _ _ h refl)
-after_some came (was_spent n) h some = turned_some (spent n) (spent_keeps_put n) came some
-after_some came (was_taken n) h some = turned_some (taken n) (taken_keeps_put n) came some
+after_some came (was_spent n) h some = changed_some (spent n) (spent_keeps_put n) came some
+after_some came (was_taken n) h some = changed_some (taken n) (taken_keeps_put n) came some
 
 after_all_some : (came : List Arrival) (past : History) → list_all puts_some past ≡ true → list_all put_some came ≡ true →
     list_all put_some (after_all came past) ≡ true

@@ -1,7 +1,9 @@
 mod After
 mod Arises
+mod AtNumber
 mod Best
 mod Calls
+mod Changed
 pub mod Earliest
 pub mod Left
 mod Lookups
@@ -13,5 +15,4 @@ mod PlacedAll
 pub mod QueueAfter
 mod RefusalCodes
 mod Scripts
-mod Turned
 mod Waiting

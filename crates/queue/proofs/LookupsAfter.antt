@@ -1,5 +1,5 @@
--- What looks up among the errands of a list after a slot was lined up, dropped or rewritten, and that each errand
--- still waits once.
+-- What each number looks up among the errands of a list after a slot was put at its place or removed, and that no number then waits
+-- twice.
 use Rattle.std.proofs.Common.{◌≡◌, ℕ, zero, suc, Bool, true, cond, eqb, List, [], ◌∷◌, Some, None, sym, refl, ap, ◌∙◌}
 use Rattle.std.specs.List.{slice_get, remove}
 use Rattle.std.proofs.lemmas.Bool.{cond_both, cond-false, cond-true, eq-eqb, ne_eqb}
@@ -10,7 +10,7 @@ use Rattle.queue.specs.Lists.{errands}
 use Rattle.queue.specs.declared.slots.Slot.{Slot}
 use Rattle.queue.proofs.Lookups.{first_once, once_more}
 
--- A number that waits nowhere is not the first errand's, and does not wait behind it.
+-- A number that does not wait is not that of the first errand, and does not wait behind it.
 pub none_apart : (e : Errand) (es : List Errand) (n : ℕ) → look (e ∷ es) n ≡ None → e.number ≡ n → ⊥
 none_apart e es n h same =
     let found : Some e ≡ None = sym (cond-true _ (Some e) (look es n) (eq-eqb _ _ same)) ∙ h in cc
@@ -25,7 +25,7 @@ none_past e es n apart = cond-false _ (Some e) (look es n) (ne_eqb _ _ apart)
 pub look_first : (e : Errand) (es : List Errand) → look (e ∷ es) e.number ≡ Some e
 look_first e es = cond-true _ (Some e) (look es e.number) (eq-eqb _ _ refl)
 
--- Placed
+-- A slot that is put at its place is found by its number, and every other number finds what it found before.
 pub look_placed_other : (before : Slot → Slot → Bool) (s : Slot) (xs : List Slot) (k : ℕ) → (k ≡ s.errand.number → ⊥) →
     look (errands (placed before s xs)) k ≡ look (errands xs) k
 look_placed_other before s [] k apart = none_past s.errand [] k (λ same. apart (sym same))
@@ -61,8 +61,8 @@ placed_once before s (x ∷ xs) within none once =
       rest = placed_once before s xs within (none_behind x.errand (errands xs) _ none) f.rest;
     }))
 
--- Removed
-pub removed_none : (es : List Errand) (i k : ℕ) → look es k ≡ None → look (remove es i) k ≡ None
+-- Where an errand is removed, its number finds none, and every other number finds what it found before.
+removed_none : (es : List Errand) (i k : ℕ) → look es k ≡ None → look (remove es i) k ≡ None
 removed_none [] zero k h = refl
 removed_none [] (suc i) k h = refl
 removed_none (x ∷ es) zero k h = none_behind x es k h
@@ -87,8 +87,8 @@ look_removed_other (x ∷ es) zero e k at apart =
 look_removed_other (x ∷ es) (suc i) e k at apart =
     ap (cond (eqb x.number k) (Some x)) (look_removed_other es i e k at apart)
 
--- A number does not wait twice, so it is gone with its errand.
-pub nth_waits : (es : List Errand) (i : ℕ) (e : Errand) → slice_get es i ≡ Some e → look es e.number ≡ None → ⊥
+-- No number waits twice, so none is left of it.
+nth_waits : (es : List Errand) (i : ℕ) (e : Errand) → slice_get es i ≡ Some e → look es e.number ≡ None → ⊥
 nth_waits [] i e at none = cc
 nth_waits (x ∷ es) zero e at none =
     let same : x ≡ e = cc in none_apart x es _ none (ap (λ y. y.number) same)

@@ -1,4 +1,4 @@
--- What becomes of a line's meaning as its slots change.
+-- What becomes of the meaning of a list as its slots change.
 use Rattle.std.proofs.Common.{◌≡◌, ℕ, zero, suc, ◌<◌, ◌≤◌, true, List, [], ◌∷◌, length, is_some, Some, None, sym, refl, ap, ◌∙◌}
 use Rattle.std.specs.List.{slice_get, remove}
 use Rattle.std.proofs.lemmas.Bool.{cond-true, cond-false, lt-leb, le-leb, not_from_true}
@@ -29,7 +29,7 @@ pub refused_not : (m : Meaning) (e : Errand) → errand_within e ≡ true → lo
 refused_not m e h k room =
     cond-false _ _ _ (not_from_true _ h) ∙ cond-false _ _ _ (ap is_some k) ∙ cond-false _ _ _ (lt-leb _ _ room)
 
--- A slot was lined up.
+-- A slot was put at its place.
 pub placed_changes : {R : _} (l m : OrderedList Slot R) (s : Slot) (rest : List Slot) → errand_within s.errand ≡ true →
     look (errands (held l)) s.errand.number ≡ None → distinct (errands (held l)) ≡ true →
     Becomes l (placed ranks s (held l)) rest m → Changes (list_meaning l) s.errand.number (Some s.errand) (list_meaning m)
@@ -48,7 +48,7 @@ errands_removed [] (suc i) = refl
 errands_removed (x ∷ xs) zero = refl
 errands_removed (x ∷ xs) (suc i) = ap (λ es. x.errand ∷ es) (errands_removed xs i)
 
--- A slot was dropped.
+-- A slot was removed.
 pub removed_changes : {R : _} (l m : OrderedList Slot R) (i : ℕ) (e : Errand) (rest : List Slot) → slice_get (errands (held l)) i ≡ Some e →
     distinct (errands (held l)) ≡ true → Becomes l (remove (held l) i) rest m →
     Changes (list_meaning l) e.number None (list_meaning m)
@@ -61,7 +61,7 @@ removed_changes l m i e rest at once done =
       sound = list_sound m (ap distinct after ∙ removed_once (errands (held l)) i once);
     }
 
--- The first slot's units changed.
+-- The units of the first slot changed.
 pub first_changes : {R : _} (l m : OrderedList Slot R) (s : Slot) (ss rest : List Slot) (units : ℕ) → held l ≡ s ∷ ss →
     distinct (errands (held l)) ≡ true → errand_within (with_units s units).errand ≡ true →
     Becomes l (with_units s units ∷ ss) rest m →

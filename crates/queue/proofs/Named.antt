@@ -1,4 +1,4 @@
--- The choices of the two queues name an errand that waits, whenever one does.
+-- The choices of the two queues name an errand that waits, wherever one does, and none where none does.
 use Rattle.std.proofs.Common.{◌≡◌, ℕ, true, eqb, List, [], ◌∷◌, map, is_some, Some, refl, ap}
 use Rattle.std.specs.List.{AllByRecursion}
 use Rattle.std.proofs.ByRecursion.{All-weaker}
@@ -45,7 +45,7 @@ module _ (worth units : Errand → ℕ) where
       let all = all_wait (a ∷ came) in
       best_is_one (Waits (waiting_of (a ∷ came))) (rated worth units a) (map (rated worth units) came) all.0 all.1
 
-  -- The choice of a queue that rates does,
+  -- The choice of a queue that rates errands does,
   pub best_names_right : NamesRight (best_rated worth units)
   best_names_right past = best_named (arrived past)
 

@@ -1,5 +1,5 @@
--- Queues by what they mean and what happened to them. Over one that answers each call on it, each call on the machine has an answer and a
--- next state.
+-- Over a queue that answers each call on it, each call on the machine has an answer and a next state. The queue is given by what it can
+-- mean after each past alone, so that no program is spoken of. What the work does is settled by the machine.
 use Rattle.std.proofs.Common.{◌≡◌, ℕ, ◌<◌, ◌≤◌, Bool, true, false, leb, List, [], ◌∷◌, ◌++◌, Some, None, Ok, Err, Option, Result, sym, refl, subst, ⊎_elim}
 use Rattle.std.proofs.lemmas.Bool.{and_parts, cases_lt}
 use Rattle.model.proofs.Histories.{stays_on}
@@ -20,7 +20,8 @@ use Rattle.model.specs.declared.rows.RowCall.{RowCall}
 use Rattle.model.specs.declared.rows.RowCall.TheVariants.{Release as RowRelease, Done as RowDone}
 use Rattle.queue.proofs.RefusalCodes.{call_refusal_is}
 
--- A kind of queue, by what one means after each past: it answers each call, and then means what one of the kind does after that call.
+-- Queues that can mean m after a past where `arises past m`: they answer each call, and mean then what they can mean after the past with
+-- what the call added.
 pub record AnswersCalls (arises : History → Meaning → Type 0) (choice : Choice) : Type 0 where
   pub sound : (past : History) (m : Meaning) → arises past m → Sound m
   pub chooses : (past : History) (m : Meaning) → arises past m → m.named ≡ choice past

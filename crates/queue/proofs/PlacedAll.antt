@@ -1,7 +1,8 @@
--- Slots that join a list in order of arrival, and what becomes of the list as slots change or leave.
+-- A list to which slots were added one by one, each at its place, and then changed or taken out: it is the list to which the changed
+-- slots were added in the same order. For a slot keeps its rating whatever becomes of it, and so keeps its place among the others.
 use Rattle.std.proofs.Common.{◌≡◌, ℕ, ◌-◌, Bool, true, false, cond, ◌&&◌, eqb, leb, List, [], ◌∷◌, ◌++◌, Some, None, Option, sym, refl, ap, ◌∙◌, ⊎_elim}
 use Rattle.std.specs.List.{cons_option, filter_map}
-use Rattle.std.proofs.lemmas.Bool.{cond-true, cond-false, cond_both, and_from, and_parts, not-true, cases_Bool, eq-eqb, ne_eqb, eqb-true}
+use Rattle.std.proofs.lemmas.Bool.{cond-true, cond-false, cond_both, and_from, and_parts, not-true, cases_Bool, eq-eqb, eqb-true}
 use Rattle.model.specs.Queues.{look, distinct}
 use Rattle.list.specs.Order.{none_before, sorted, placed}
 use Rattle.list.proofs.Order.{placed_keeps_sorted}
@@ -11,23 +12,23 @@ use Rattle.queue.specs.Ratings.{outrates}
 use Rattle.queue.specs.Slots.{with_units}
 use Rattle.queue.specs.Orders.{placed_all}
 use Rattle.queue.specs.declared.slots.Slot.{Slot}
-use Rattle.queue.proofs.After.{taken_slot, first_spent, without, spent_slot}
-use Rattle.queue.proofs.LookupsAfter.{none_apart, none_behind}
+use Rattle.queue.proofs.After.{taken_slot, first_spent, less_slot, without, spent_slot}
+use Rattle.queue.proofs.AtNumber.{Keeps, all_stay, keeps_at_number}
 use Rattle.queue.proofs.Lookups.{first_once}
 
 pub placed_all_more : (list came : List Slot) (s : Slot) → placed_all list (came ++ s ∷ []) ≡ placed ranks s (placed_all list came)
 placed_all_more list [] s = refl
 placed_all_more list (x ∷ came) s = placed_all_more (placed ranks x list) came s
 
--- What turns slots without changing their ratings.
+-- What changes slots but not their ratings.
 abbrev pub KeepsRating : (Slot → Option Slot) → Type 0
-KeepsRating turn = (s t : Slot) → turn s ≡ Some t → t.rating ≡ s.rating
+KeepsRating = Keeps (λ (s : Slot). s.rating)
 
 abbrev placed_if : Option Slot → List Slot → List Slot
 placed_if None list = list
 placed_if (Some s) list = placed ranks s list
 
--- The slot outrates each of the others.
+-- A slot outrates each of the others.
 abbrev outrates_all : Slot → List Slot → Bool
 outrates_all s [] = true
 outrates_all s (y ∷ ys) = ranks s y && outrates_all s ys
@@ -46,90 +47,72 @@ outrates_rest s x t (y ∷ ys) h =
 same_ranks : (s t x y : Slot) → t.rating ≡ s.rating → y.rating ≡ x.rating → ranks t y ≡ ranks s x
 same_ranks s t x y p q = ap (λ r. outrates r y.rating) p ∙ ap (outrates s.rating) q
 
-placed_first : (turn : Slot → Option Slot) → KeepsRating turn → (s t : Slot) → t.rating ≡ s.rating → (ys : List Slot) →
-    outrates_all s ys ≡ true → placed ranks t (filter_map turn ys) ≡ t ∷ filter_map turn ys
-placed_first turn keeps s t same [] h = refl
-placed_first turn keeps s t same (y ∷ ys) h =
+placed_first : (change : Slot → Option Slot) → KeepsRating change → (s t : Slot) → t.rating ≡ s.rating → (ys : List Slot) →
+    outrates_all s ys ≡ true → placed ranks t (filter_map change ys) ≡ t ∷ filter_map change ys
+placed_first change keeps s t same [] h = refl
+placed_first change keeps s t same (y ∷ ys) h =
     let p = and_parts _ _ h in
-    (elim (turn y)
-    as (λ o. turn y ≡ o → placed ranks t (cons_option o (filter_map turn ys)) ≡ t ∷ cons_option o (filter_map turn ys)) [
-      | None ↦ λ _. placed_first turn keeps s t same ys p.1
+    (elim (change y)
+    as (λ o. change y ≡ o → placed ranks t (cons_option o (filter_map change ys)) ≡ t ∷ cons_option o (filter_map change ys)) [
+      | None ↦ λ _. placed_first change keeps s t same ys p.1
       | Some z ↦ λ e. cond-true _ _ _ (same_ranks s t y z same (keeps y z e) ∙ p.0)
     ])
     refl
 
--- To turn slots and to let one join come to the same in either order.
-each_placed : (turn : Slot → Option Slot) → KeepsRating turn → (s : Slot) (list : List Slot) → sorted ranks list ≡ true →
-    (o : Option Slot) → turn s ≡ o → filter_map turn (placed ranks s list) ≡ placed_if o (filter_map turn list)
-each_placed turn keeps s [] h None e = ap (λ o. cons_option o []) e
-each_placed turn keeps s [] h (Some t) e = ap (λ o. cons_option o []) e
-each_placed turn keeps s (x ∷ xs) h None e =
+-- To put a slot at its place and then to change slots is to change them first, and then to put what became of that slot at its place.
+each_placed : (change : Slot → Option Slot) → KeepsRating change → (s : Slot) (list : List Slot) → sorted ranks list ≡ true →
+    (o : Option Slot) → change s ≡ o → filter_map change (placed ranks s list) ≡ placed_if o (filter_map change list)
+each_placed change keeps s [] h None e = ap (λ o. cons_option o []) e
+each_placed change keeps s [] h (Some t) e = ap (λ o. cons_option o []) e
+each_placed change keeps s (x ∷ xs) h None e =
     let p = and_parts _ _ h in
-    cond_both (ranks s x) (s ∷ x ∷ xs) (x ∷ placed ranks s xs) (λ ys. filter_map turn ys ≡ filter_map turn (x ∷ xs))
-    (λ _. ap (λ o. cons_option o (filter_map turn (x ∷ xs))) e)
-    (λ _. ap (cons_option (turn x)) (each_placed turn keeps s xs p.1 None e))
-each_placed turn keeps s (x ∷ xs) h (Some t) e =
+    cond_both (ranks s x) (s ∷ x ∷ xs) (x ∷ placed ranks s xs) (λ ys. filter_map change ys ≡ filter_map change (x ∷ xs))
+    (λ _. ap (λ o. cons_option o (filter_map change (x ∷ xs))) e)
+    (λ _. ap (cons_option (change x)) (each_placed change keeps s xs p.1 None e))
+each_placed change keeps s (x ∷ xs) h (Some t) e =
     let p = and_parts _ _ h in
     let same = keeps s t e in
     cond_both (ranks s x) (s ∷ x ∷ xs) (x ∷ placed ranks s xs)
-    (λ ys. filter_map turn ys ≡ placed ranks t (filter_map turn (x ∷ xs)))
+    (λ ys. filter_map change ys ≡ placed ranks t (filter_map change (x ∷ xs)))
     (λ b.
-    ap (λ o. cons_option o (filter_map turn (x ∷ xs))) e
-    ∙ sym (placed_first turn keeps s t same (x ∷ xs) (and_from _ _ b (outrates_rest s x b xs p.0))))
+    ap (λ o. cons_option o (filter_map change (x ∷ xs))) e
+    ∙ sym (placed_first change keeps s t same (x ∷ xs) (and_from _ _ b (outrates_rest s x b xs p.0))))
     (λ f.
-    ap (cons_option (turn x)) (each_placed turn keeps s xs p.1 (Some t) e)
-    ∙ (elim (turn x)
-    as (λ o. turn x ≡ o →
-    cons_option o (placed ranks t (filter_map turn xs)) ≡ placed ranks t (cons_option o (filter_map turn xs))) [
+    ap (cons_option (change x)) (each_placed change keeps s xs p.1 (Some t) e)
+    ∙ (elim (change x)
+    as (λ o. change x ≡ o →
+    cons_option o (placed ranks t (filter_map change xs)) ≡ placed ranks t (cons_option o (filter_map change xs))) [
       | None ↦ λ _. refl
       | Some y ↦ λ q. sym (cond-false _ _ _ (same_ranks s t x y same (keeps x y q) ∙ f))
     ])
     refl)
 
-pub each_placed_all : (turn : Slot → Option Slot) → KeepsRating turn → (list came : List Slot) → sorted ranks list ≡ true →
-    filter_map turn (placed_all list came) ≡ placed_all (filter_map turn list) (filter_map turn came)
-each_placed_all turn keeps list [] h = refl
-each_placed_all turn keeps list (s ∷ came) h =
-    each_placed_all turn keeps (placed ranks s list) came (placed_keeps_sorted ranks ranks_asymmetric ranks_negatively_transitive s list h)
-    ∙ (elim (turn s)
-    as (λ o. turn s ≡ o →
-    placed_all (filter_map turn (placed ranks s list)) (filter_map turn came)
-    ≡ placed_all (filter_map turn list) (cons_option o (filter_map turn came))) [
-      | None ↦ λ e. ap (λ ys. placed_all ys (filter_map turn came)) (each_placed turn keeps s list h None e)
-      | Some t ↦ λ e. ap (λ ys. placed_all ys (filter_map turn came)) (each_placed turn keeps s list h (Some t) e)
+pub each_placed_all : (change : Slot → Option Slot) → KeepsRating change → (list came : List Slot) → sorted ranks list ≡ true →
+    filter_map change (placed_all list came) ≡ placed_all (filter_map change list) (filter_map change came)
+each_placed_all change keeps list [] h = refl
+each_placed_all change keeps list (s ∷ came) h =
+    each_placed_all change keeps (placed ranks s list) came (placed_keeps_sorted ranks ranks_asymmetric ranks_negatively_transitive s list h)
+    ∙ (elim (change s)
+    as (λ o. change s ≡ o →
+    placed_all (filter_map change (placed ranks s list)) (filter_map change came)
+    ≡ placed_all (filter_map change list) (cons_option o (filter_map change came))) [
+      | None ↦ λ e. ap (λ ys. placed_all ys (filter_map change came)) (each_placed change keeps s list h None e)
+      | Some t ↦ λ e. ap (λ ys. placed_all ys (filter_map change came)) (each_placed change keeps s list h (Some t) e)
     ])
     refl
 
--- Slots of other numbers stay.
-others_stay : (turn : Slot → Option Slot) (n : ℕ) → ((s : Slot) → (s.errand.number ≡ n → ⊥) → turn s ≡ Some s) →
-    (ss : List Slot) → look (errands ss) n ≡ None → filter_map turn ss ≡ ss
-others_stay turn n others [] none = refl
-others_stay turn n others (s ∷ ss) none =
-    ap (λ o. cons_option o (filter_map turn ss)) (others s (none_apart s.errand (errands ss) n none))
-    ∙ ap (λ ys. s ∷ ys) (others_stay turn n others ss (none_behind s.errand (errands ss) n none))
-
-taken_others : (n : ℕ) (s : Slot) → (s.errand.number ≡ n → ⊥) → taken_slot n s ≡ Some s
-taken_others n s apart = cond-false _ _ _ (ne_eqb _ _ apart)
-
-spent_others : (n : ℕ) (s : Slot) → (s.errand.number ≡ n → ⊥) → spent_slot n s ≡ Some s
-spent_others n s apart = cond-false _ _ _ (ne_eqb _ _ apart)
-
+-- A slot that is taken or spent on keeps its rating.
 pub taken_keeps_rating : (n : ℕ) → KeepsRating (taken_slot n)
-taken_keeps_rating n s t =
-    cond_both (eqb s.errand.number n) None (Some s) (λ o. o ≡ Some t → t.rating ≡ s.rating)
-    (λ _ e. cc)
-    (λ _ e. let same : s ≡ t = cc in ap (λ x. x.rating) (sym same))
+taken_keeps_rating = keeps_at_number (λ (s : Slot). s.rating) (λ (s : Slot). s.errand.number) (λ _. None) (λ s t is. cc)
 
 pub spent_keeps_rating : (n : ℕ) → KeepsRating (spent_slot n)
-spent_keeps_rating n s t =
+spent_keeps_rating =
+    keeps_at_number (λ (s : Slot). s.rating) (λ (s : Slot). s.errand.number) less_slot
+    (λ s t.
     let less = with_units s (s.errand.units - 1) in
-    let P : Option Slot → Type 0 = λ o. o ≡ Some t → t.rating ≡ s.rating in
-    cond_both (eqb s.errand.number n) (cond (leb s.errand.units 1) None (Some less)) (Some s) P
-    (λ _.
-    cond_both (leb s.errand.units 1) None (Some less) P
-    (λ _ e. cc)
-    (λ _ e. let same : less ≡ t = cc in ap (λ x. x.rating) (sym same)))
-    (λ _ e. let same : s ≡ t = cc in ap (λ x. x.rating) (sym same))
+    cond_both (leb s.errand.units 1) None (Some less) (λ o. o ≡ Some t → t.rating ≡ s.rating)
+    (λ _ is. cc)
+    (λ _ is. let same : less ≡ t = cc in ap (λ x. x.rating) (sym same)))
 
 pub without_is_taken : (n : ℕ) (ss : List Slot) → distinct (errands ss) ≡ true → without n ss ≡ filter_map (taken_slot n) ss
 without_is_taken n [] once = refl
@@ -139,7 +122,7 @@ without_is_taken n (s ∷ ss) once =
     as (λ b. eqb s.errand.number n ≡ b →
     cond b ss (s ∷ without n ss) ≡ cons_option (cond b None (Some s)) (filter_map (taken_slot n) ss)) [
       | true ↦ λ e.
-          sym (others_stay (taken_slot n) n (taken_others n) ss (ap (look (errands ss)) (sym (eqb-true _ _ e)) ∙ f.alone))
+          sym (all_stay (λ (x : Slot). x.errand) (λ _. None) n ss (ap (look (errands ss)) (sym (eqb-true _ _ e)) ∙ f.alone))
       | false ↦ λ _. ap (λ ys. s ∷ ys) (without_is_taken n ss f.rest)
     ])
     refl
@@ -150,14 +133,10 @@ first_spent_is_spent n [] named once = cc
 first_spent_is_spent n (s ∷ ss) named once =
     let f = first_once s.errand (errands ss) once in
     let same : s.errand.number ≡ n = cc in
-    let rest = others_stay (spent_slot n) n (spent_others n) ss (ap (look (errands ss)) (sym same) ∙ f.alone) in
+    let rest = all_stay (λ (x : Slot). x.errand) less_slot n ss (ap (look (errands ss)) (sym same) ∙ f.alone) in
     let less = with_units s (s.errand.units - 1) in
     (elim (leb s.errand.units 1)
     as (λ b. cond b ss (less ∷ ss) ≡ cons_option (cond b None (Some less)) ss) [ true ↦ refl | false ↦ refl ])
     ∙ sym
     (ap (λ o. cons_option o (filter_map (spent_slot n) ss)) (cond-true _ _ _ (eq-eqb _ _ same))
     ∙ ap (cons_option (cond (leb s.errand.units 1) None (Some less))) rest)
-
-pub first_spent_of_none : (ss : List Slot) → first_number (errands ss) ≡ None → ss ≡ first_spent ss
-first_spent_of_none [] none = refl
-first_spent_of_none (s ∷ ss) none = cc

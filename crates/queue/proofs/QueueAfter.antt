@@ -1,4 +1,4 @@
--- The queue after each history, with the errand of a choice named: it answers each call, so every script has a run over it.
+-- The queue after each history, with the errand of a choice named. It answers each call, so every script has a run over it.
 use Rattle.std.proofs.Common.{◌≡◌, ℕ, ◌≤◌, true, List, [], ◌∷◌, ◌++◌, length, Some, None, Ok, Err, Option, Result, sym, refl, ap, ◌∙◌, subst, arith, length-append}
 use Rattle.std.specs.List.{filter_map}
 use Rattle.std.proofs.lemmas.List.{map_push}
@@ -13,12 +13,12 @@ use Rattle.model.specs.declared.duties.Duty.{Duty}
 use Rattle.model.specs.declared.errands.Errand.{Errand}
 use Rattle.model.specs.declared.refusals.Refusal.{Refusal}
 use Rattle.model.specs.declared.refusals.Refusal.TheVariants.{NotWaiting}
-use Rattle.queue.specs.Arrivals.{Arrival, after, arrived, taken, spent}
+use Rattle.queue.specs.Arrivals.{Arrival, after, arrived}
 use Rattle.queue.proofs.Scripts.{script_runs}
 use Rattle.queue.proofs.RefusalCodes.{put_accepted, put_refusal_is}
-use Rattle.queue.proofs.Turned.{KeepsNumber, none_keeps, joined_once, less_keeps, look_before, look_joined, look_others, look_turned, no_more, turned, turned_once}
+use Rattle.queue.proofs.Changed.{KeepsNumber, none_keeps, joined_once, less_keeps, look_before, look_joined, look_others, look_changed, no_more, errand_at, changed_once}
 use Rattle.queue.proofs.NextSteps.{AnswersCalls}
-use Rattle.queue.proofs.Waiting.{after_more, taken_waits, waiting_of, waiting_turned, spent_waits}
+use Rattle.queue.proofs.Waiting.{after_more, taken_waits, waiting_of, spent_waits}
 use Rattle.queue.specs.Scripts.{RunOf}
 
 -- What a queue of so many places means after a history, if it names the errand of a choice.
@@ -35,7 +35,7 @@ named_waits [] n right = cc
 named_waits (e ∷ es) n right = some_is (look (e ∷ es) n) right
 
 module _ (choice : Choice) (right : NamesRight choice) (places : ℕ) where
-  -- What the queue means after a past, and that one stands so.
+  -- What the queue means after a past, and that a meaning is this one.
   abbrev means : History → Meaning
   means past = queue_after choice places past
 
@@ -55,7 +55,7 @@ module _ (choice : Choice) (right : NamesRight choice) (places : ℕ) where
   empty_is_after : IsAfter [] (means [])
   empty_is_after = is_after [] (sound_after [] refl (omega arith))
 
-  -- An event that leaves these errands, of which one number alone looks up otherwise, changes that number.
+  -- An event after which these errands wait, among which one number alone looks up otherwise than before, changes that number.
   changed : (past : History) (x : Event) (es : List Errand) (n : ℕ) (found : Option Errand)
       → waiting_of (after (arrived past) x) ≡ es
       → look es n ≡ found
@@ -85,18 +85,18 @@ module _ (choice : Choice) (right : NamesRight choice) (places : ℕ) where
       (means (past ++ was_put e ∷ []), (told, change), is_after (past ++ was_put e ∷ []) change.sound)
   put_leaves past e (Err why) sound told = (means past, (told, refl), stays_after past sound)
 
-  -- So does one that turns the errand of a number.
-  turned_leaves : (past : History) (x : Event) (f : Errand → Option Errand) (n : ℕ) (e : Errand) → KeepsNumber f → Sound (means past)
-      → waiting_of (after (arrived past) x) ≡ filter_map (turned f n) (means past).waiting
+  -- So does one that changes the errand of a number, or takes it out.
+  change_leaves : (past : History) (x : Event) (f : Errand → Option Errand) (n : ℕ) (e : Errand) → KeepsNumber f → Sound (means past)
+      → waiting_of (after (arrived past) x) ≡ filter_map (errand_at f n) (means past).waiting
       → look (means past).waiting n ≡ Some e
       → Changes (means past) n (f e) (means (past ++ x ∷ []))
-  turned_leaves past x f n e turns sound leaves found =
+  change_leaves past x f n e keeps sound leaves found =
       let es = (means past).waiting in
-      changed past x (filter_map (turned f n) es) n (f e) leaves
-      (look_turned f n turns es e sound.each_once found)
-      (λ k apart. look_others f n turns es k sound.each_once apart)
-      (turned_once f n turns es sound.each_once)
-      (omega (arith, no_more (turned f n) es, sound.few))
+      changed past x (filter_map (errand_at f n) es) n (f e) leaves
+      (look_changed f n keeps es e sound.each_once found)
+      (λ k apart. look_others f n keeps es k sound.each_once apart)
+      (changed_once f n keeps es sound.each_once)
+      (omega (arith, no_more (errand_at f n) es, sound.few))
 
   spend_leaves : (past : History) → Sound (means past) → (o : Option ℕ) → choice past ≡ o
       → (r : Option ℕ) × (m' : Meaning) × Spend (means past) r m' × IsAfter (past ++ by_spend r) m'
@@ -104,8 +104,8 @@ module _ (choice : Choice) (right : NamesRight choice) (places : ℕ) where
   spend_leaves past sound (Some n) named =
       let (e, found) = named_waits (means past).waiting n (ap (names_right (means past).waiting) (sym named) ∙ right past) in
       let change =
-      turned_leaves past (was_spent n) one_less n e less_keeps sound
-      (waiting_turned (spent n) (turned one_less n) (spent_waits n) (arrived past)) found in
+      change_leaves past (was_spent n) one_less n e less_keeps sound
+      (spent_waits n (arrived past)) found in
       (Some n, means (past ++ was_spent n ∷ []), (named, (e, found, change)), is_after (past ++ was_spent n ∷ []) change.sound)
 
   take_leaves : (past : History) (n : ℕ) → Sound (means past) → (o : Option Errand) → look (means past).waiting n ≡ o
@@ -113,8 +113,8 @@ module _ (choice : Choice) (right : NamesRight choice) (places : ℕ) where
   take_leaves past n sound None none = (Err NotWaiting, means past, (none, refl, refl), stays_after past sound)
   take_leaves past n sound (Some e) found =
       let change =
-      turned_leaves past (was_taken n) (λ _. None) n e none_keeps sound
-      (waiting_turned (taken n) (turned (λ _. None) n) (taken_waits n) (arrived past)) found in
+      change_leaves past (was_taken n) (λ _. None) n e none_keeps sound
+      (taken_waits n (arrived past)) found in
       (Ok e.units, means (past ++ was_taken n ∷ []), (e, found, refl, change), is_after (past ++ was_taken n ∷ []) change.sound)
 
   answers : AnswersCalls IsAfter choice

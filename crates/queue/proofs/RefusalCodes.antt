@@ -1,4 +1,4 @@
--- The numbers that refuse a call are told by a refusal.
+-- Whatever refuses a call by the machine's definition is the code of a refusal, so that there is an answer to give.
 use Rattle.std.proofs.Common.{◌≡◌, ℕ, ◌<◌, Bool, true, false, cond, not, leb, ltb, List, [], ◌∷◌, length, is_some, None, Ok, Err, Result, refl}
 use Rattle.std.proofs.lemmas.Bool.{leb-false, not-false}
 use Rattle.model.specs.Demand.{row_at}
@@ -14,7 +14,7 @@ use Rattle.model.specs.declared.rows.RowCall.{RowCall}
 use Rattle.model.specs.declared.rows.RowCall.TheVariants.{Release as RowRelease, Done as RowDone, Run as RowRun}
 use Rattle.queue.proofs.Lookups.{none_from_test}
 
--- A refusal tells these numbers, or there are none and the call is accepted.
+-- The numbers are those of some refusal, or there are none and the call is accepted.
 abbrev pub IsRefusal : List ℕ → Type 0
 IsRefusal ns = (r : Result (Unit {0}) Refusal) × (ns ≡ refusal r)
 
@@ -22,7 +22,7 @@ pub either_refusal : (b : Bool) (ns ms : List ℕ) → IsRefusal ns → IsRefusa
 either_refusal true ns ms first second = first
 either_refusal false ns ms first second = second
 
--- Each number that refuses a call to a row is told,
+-- So are those that refuse a call to a row,
 row_refusal_is : (clock : ℕ) (row : Row) (call : RowCall) → IsRefusal (row_refusal clock row call)
 row_refusal_is clock (Idle e) RowRelease = either_refusal (ltb clock e) _ _ (Err TooSoon, refl) (Ok tt, refl)
 row_refusal_is clock (Ready c d e) RowRelease = either_refusal (ltb clock e) _ _ (Err TooSoon, refl) (Ok tt, refl)
@@ -41,7 +41,7 @@ neither_refuses true n rest e = cc
 neither_refuses false n rest e = (refl, e)
 
 module _ (m : Meaning) (e : Errand) where
-  -- and each that refuses a put.
+  -- and those that refuse a put.
   pub put_refusal_is : IsRefusal (put_refusal m e)
   put_refusal_is =
       either_refusal (not (errand_within e)) _ _ (Err ErrandLimits, refl)

@@ -1,11 +1,12 @@
 -- The errands that wait in order of arrival, and by which choice one of them is served next. All of it is read off a
 -- queue's history alone.
-use Rattle.std.specs.Prelude.{ℕ, ◌*◌, Bool, cond, List, [], ◌∷◌, ◌++◌, map, Some, None, Option, ◌==◌, nat_lt}
+use Rattle.std.specs.Prelude.{ℕ, Bool, cond, List, [], ◌∷◌, ◌++◌, map, Some, None, Option, ◌==◌}
 use Rattle.std.specs.List.{filter_map}
 use Rattle.std.specs.Option.{option_map}
 use Rattle.model.specs.Histories.{Choice, Event, History, was_put, was_spent, was_taken}
 use Rattle.model.specs.Queues.{one_less}
 use Rattle.model.specs.declared.errands.Errand.{Errand}
+use Rattle.queue.specs.Ratings.{more_for_one}
 
 -- An errand that arrived and waits: as it was put, and as it waits, with its units left.
 pub record Arrival : Type 0 where
@@ -55,9 +56,9 @@ pub record Rated : Type 0 where
 abbrev pub rated : (Errand → ℕ) → (Errand → ℕ) → Arrival → Rated
 rated worth units a = record { errand = a.waits; worth = worth a.put; units = units a.put }
 
--- a has more worth for a unit than b: worth of a × units of b exceeds worth of b × units of a.
+-- a has more worth for a unit than b.
 abbrev pub better : Rated → Rated → Bool
-better a b = nat_lt (b.worth * a.units) (a.worth * b.units)
+better a b = more_for_one a.worth a.units b.worth b.units
 
 -- The best of b and of those that arrived after it, one by one: a later one only if it is better than the best before.
 abbrev pub best_from : Rated → List Rated → Rated

@@ -25,7 +25,7 @@ pub struct ErrandQueue<'a, R: Rule> {
     rule: PhantomData<R>,
     // No number waits twice, and every errand is within its limits.
     ghost once: { distinct (errands (held list)) ≡ true },
-    // Some history led to the list.
+    /// Some history led to the list.
     pub ghost arose: { Arose R.worth R.units (held list) },
 }
 

@@ -71,8 +71,8 @@ fn taken<Q: Queue + Drop>(rt: &HostRuntime, mut queue: Q) -> io::Result<()> {
     serve(rt, &mut queue, 6)
 }
 
-// The refusals of put, each alone and where several fit, and that of take: what is said below is of a queue of two places. One of no
-// place answers 10 where there is no 8.
+// The refusals of put, each alone and where several fit, and that of take. What is said below is of a queue with room for two. One with
+// room for none answers 10 wherever it does not answer 8.
 fn refused<Q: Queue + Drop>(rt: &HostRuntime, mut queue: Q) -> io::Result<()> {
     // Limits: 8; then within them.
     put_all(
@@ -96,7 +96,7 @@ fn refused<Q: Queue + Drop>(rt: &HostRuntime, mut queue: Q) -> io::Result<()> {
             errand(3, 1, 1),
         ],
     )?;
-    // With no place free: 8 and 10; 9 and 10; 8, 9 and 10; 10.
+    // With no room left: 8 and 10; 9 and 10; 8, 9 and 10; 10.
     put_all(
         rt,
         &mut queue,
@@ -114,7 +114,7 @@ fn refused<Q: Queue + Drop>(rt: &HostRuntime, mut queue: Q) -> io::Result<()> {
     take_one(rt, &mut queue, 2)
 }
 
-// How many of 1,030 errands find a place.
+// For how many of 1,030 errands there is room.
 fn filled<Q: Queue + Drop>(rt: &HostRuntime, mut queue: Q) -> io::Result<()> {
     let mut places = 0u32;
     for number in 0..1030 {

@@ -4,7 +4,7 @@ use Rattle.model.specs.declared.refusals.Refusal.TheVariants.{AlreadyWaiting}
 use Rattle.list.specs.Held.{held}
 use Rattle.queue.specs.Lists.{place_of}
 use Rattle.queue.proofs.Arises.{arises_put, still_arose}
-use Rattle.queue.proofs.Calls.{free_put, once_put, put_inserted, put_waits}
+use Rattle.queue.proofs.Calls.{NewErrand, free_put, once_put, put_inserted, put_waits}
 use Rattle.queue.proofs.errand_queue.ErrandQueueQueue.put.Goals as goal
 
 pub returns-then-is_some-clause-means : goal.returns-then-is_some-clause-means
@@ -18,9 +18,9 @@ invariant_of-self g c =
     let q = c.args.self.now in
     let none : is_some (place_of c.args.errand.number (held q.list)) ≡ false = cc in
     let made = c.in_ok-slot.ensures in
-    let put =
-    put_inserted q.list c.insert.new.self c.in_ok-slot.slot c.args.errand c.insert.result c.insert.ensures none
-    made.1.errand made.0 q.once in
+    let new : NewErrand q.list c.in_ok-slot.slot c.args.errand =
+    record { absent = none; errand = made.1.errand; within = made.0; once = q.once } in
+    let put = put_inserted q.list c.insert.new.self c.in_ok-slot.slot c.args.errand c.insert.result new c.insert.ensures in
     let goes_on =
     arises_put g.R.Rule.worth g.R.Rule.units q.list c.insert.new.self c.in_ok-slot.slot c.args.errand c.insert.result made.1
     c.insert.ensures in
@@ -36,8 +36,8 @@ returns-clause-means g c =
     let q = c.args.self.now in
     let none : is_some (place_of c.args.errand.number (held q.list)) ≡ false = cc in
     let made = c.in_ok-slot.ensures in
-    put_inserted q.list c.insert.new.self c.in_ok-slot.slot c.args.errand c.insert.result c.insert.ensures none
-    made.1.errand made.0 q.once
+    put_inserted q.list c.insert.new.self c.in_ok-slot.slot c.args.errand c.insert.result
+    (record { absent = none; errand = made.1.errand; within = made.0; once = q.once }) c.insert.ensures
 
 pub returns-clause-history : goal.returns-clause-history
 returns-clause-history g c =

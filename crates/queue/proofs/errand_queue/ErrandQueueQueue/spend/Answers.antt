@@ -1,9 +1,8 @@
-use Rattle.std.proofs.Common.{◌≡◌, Some, rules}
-use Rattle.std.specs.List.{slice_get}
-use Rattle.model.specs.Histories.{by_spend}
+use Rattle.std.proofs.Common.{[], ◌∷◌, rules}
+use Rattle.model.specs.Histories.{was_spent}
 use Rattle.list.specs.Held.{held}
 use Rattle.queue.proofs.Arises.{arises_spend, still_arose}
-use Rattle.queue.proofs.Calls.{last_spent, unit_spent, once_spent}
+use Rattle.queue.proofs.Calls.{FirstErrand, last_spent, unit_spent, once_spent}
 use Rattle.queue.proofs.errand_queue.ErrandQueueQueue.spend.Goals as goal
 
 pub invariant_of-self : goal.invariant_of-self
@@ -12,12 +11,12 @@ invariant_of-self g c =
     let m = c.remove.new.self in
     let e = c.errand-errand.result in
     let s = c.in_ok-slot.field-0.now in
-    let at : slice_get (held q.list) 0 ≡ Some s = cc (c.in_ok-slot.ensures) in
-    let done = last_spent q.list m s e at c.errand-errand.ensures c.if-errand-le1.true c.remove.ensures.becomes q.once in
-    let goes_on = arises_spend g.R.Rule.worth g.R.Rule.units q.list m (Some e.number) done.spends q.once done.slots in
+    let front : FirstErrand q.list s e = record { at = cc (c.in_ok-slot.ensures); errand = c.errand-errand.ensures; once = q.once } in
+    let done = last_spent q.list m s e front c.if-errand-le1.true c.remove.ensures.becomes in
+    let goes_on = arises_spend g.R.Rule.worth g.R.Rule.units q.list m e.number q.once done in
     record {
       once = once_spent q.list m e.number done;
-      arose = still_arose g.R.Rule.worth g.R.Rule.units (held q.list) (held m) (by_spend (Some e.number)) goes_on q.arose;
+      arose = still_arose g.R.Rule.worth g.R.Rule.units (held q.list) (held m) (was_spent e.number ∷ []) goes_on q.arose;
     }
 
 pub returns-then-errand-le1-clause-history : goal.returns-then-errand-le1-clause-history
@@ -26,9 +25,9 @@ returns-then-errand-le1-clause-history g c =
     let m = c.remove.new.self in
     let e = c.errand-errand.result in
     let s = c.in_ok-slot.field-0.now in
-    let at : slice_get (held q.list) 0 ≡ Some s = cc (c.in_ok-slot.ensures) in
-    let done = last_spent q.list m s e at c.errand-errand.ensures c.if-errand-le1.true c.remove.ensures.becomes q.once in
-    arises_spend g.R.Rule.worth g.R.Rule.units q.list m (Some e.number) done.spends q.once done.slots
+    let front : FirstErrand q.list s e = record { at = cc (c.in_ok-slot.ensures); errand = c.errand-errand.ensures; once = q.once } in
+    let done = last_spent q.list m s e front c.if-errand-le1.true c.remove.ensures.becomes in
+    arises_spend g.R.Rule.worth g.R.Rule.units q.list m e.number q.once done
 
 pub invariant_of-self-else-errand-le1 : goal.invariant_of-self-else-errand-le1
 invariant_of-self-else-errand-le1 g c =
@@ -36,14 +35,13 @@ invariant_of-self-else-errand-le1 g c =
     let m = c.replace.new.self in
     let e = c.errand-errand.result in
     let s = c.in_ok-slot.field-0.now in
-    let at : slice_get (held q.list) 0 ≡ Some s = cc (c.in_ok-slot.ensures) in
+    let front : FirstErrand q.list s e = record { at = cc (c.in_ok-slot.ensures); errand = c.errand-errand.ensures; once = q.once } in
     let done =
-    unit_spent q.list m s c.with_units.result e c.replace.result at c.errand-errand.ensures c.if-errand-le1.false
-    c.with_units.ensures c.replace.ensures.value c.replace.ensures.becomes q.once in
-    let goes_on = arises_spend g.R.Rule.worth g.R.Rule.units q.list m (Some e.number) done.spends q.once done.slots in
+    unit_spent q.list m s e front c.if-errand-le1.false c.with_units.ensures c.replace.ensures.value c.replace.ensures.becomes in
+    let goes_on = arises_spend g.R.Rule.worth g.R.Rule.units q.list m e.number q.once done in
     record {
       once = once_spent q.list m e.number done;
-      arose = still_arose g.R.Rule.worth g.R.Rule.units (held q.list) (held m) (by_spend (Some e.number)) goes_on q.arose;
+      arose = still_arose g.R.Rule.worth g.R.Rule.units (held q.list) (held m) (was_spent e.number ∷ []) goes_on q.arose;
     }
 
 pub returns-else-errand-le1 : goal.returns-else-errand-le1
@@ -52,13 +50,12 @@ returns-else-errand-le1 g c =
     let m = c.replace.new.self in
     let e = c.errand-errand.result in
     let s = c.in_ok-slot.field-0.now in
-    let at : slice_get (held q.list) 0 ≡ Some s = cc (c.in_ok-slot.ensures) in
+    let front : FirstErrand q.list s e = record { at = cc (c.in_ok-slot.ensures); errand = c.errand-errand.ensures; once = q.once } in
     let done =
-    unit_spent q.list m s c.with_units.result e c.replace.result at c.errand-errand.ensures c.if-errand-le1.false
-    c.with_units.ensures c.replace.ensures.value c.replace.ensures.becomes q.once in
+    unit_spent q.list m s e front c.if-errand-le1.false c.with_units.ensures c.replace.ensures.value c.replace.ensures.becomes in
     record {
       means = done.spends;
-      history = arises_spend g.R.Rule.worth g.R.Rule.units q.list m (Some e.number) done.spends q.once done.slots;
+      history = arises_spend g.R.Rule.worth g.R.Rule.units q.list m e.number q.once done;
       untouched = λ added. cc;
       rest = done.free;
       beyond = search rules;

@@ -4,7 +4,7 @@ use Rattle.model.specs.declared.refusals.Refusal.TheVariants.{NotWaiting}
 use Rattle.list.specs.Held.{held}
 use Rattle.queue.specs.Lists.{place_of}
 use Rattle.queue.proofs.Arises.{arises_take, still_arose}
-use Rattle.queue.proofs.Calls.{errand_taken, once_taken, take_missing}
+use Rattle.queue.proofs.Calls.{ErrandAt, errand_taken, once_taken, take_missing}
 use Rattle.queue.proofs.errand_queue.ErrandQueueQueue.take.Goals as goal
 
 pub returns-in_err-place-clause-means : goal.returns-in_err-place-clause-means
@@ -23,8 +23,10 @@ invariant_of-self g c =
     let s = c.index-entries-place.result in
     let place : place_of n (held q.list) ≡ Some i = cc (c.in_ok-place.ensures.ok_part) in
     let read = c.index-entries-place.is ∙ ap (λ ss. get_or ss i s) c.entries-2.ensures in
-    let done = errand_taken q.list m n i s c.errand-units.result place read c.errand-units.ensures c.remove.ensures.becomes q.once in
-    let goes_on = arises_take g.R.Rule.worth g.R.Rule.units q.list m n q.once done.slots in
+    let here : ErrandAt q.list n i s c.errand-units.result =
+    record { place = place; read = read; errand = c.errand-units.ensures; once = q.once } in
+    let done = errand_taken q.list m here c.remove.ensures.becomes in
+    let goes_on = arises_take g.R.Rule.worth g.R.Rule.units q.list m n c.errand-units.result.units q.once done in
     record {
       once = once_taken q.list m n c.errand-units.result.units done;
       arose = still_arose g.R.Rule.worth g.R.Rule.units (held q.list) (held m) (was_taken n ∷ []) goes_on q.arose;
@@ -39,10 +41,12 @@ returns g c =
     let s = c.index-entries-place.result in
     let place : place_of n (held q.list) ≡ Some i = cc (c.in_ok-place.ensures.ok_part) in
     let read = c.index-entries-place.is ∙ ap (λ ss. get_or ss i s) c.entries-2.ensures in
-    let done = errand_taken q.list m n i s c.errand-units.result place read c.errand-units.ensures c.remove.ensures.becomes q.once in
+    let here : ErrandAt q.list n i s c.errand-units.result =
+    record { place = place; read = read; errand = c.errand-units.ensures; once = q.once } in
+    let done = errand_taken q.list m here c.remove.ensures.becomes in
     record {
       means = done.takes;
-      history = arises_take g.R.Rule.worth g.R.Rule.units q.list m n q.once done.slots;
+      history = arises_take g.R.Rule.worth g.R.Rule.units q.list m n c.errand-units.result.units q.once done;
       untouched = λ added. cc;
       rest = done.free;
       beyond = search rules;

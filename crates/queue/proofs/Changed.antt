@@ -1,26 +1,29 @@
--- What looks up among errands of which the one of a number was turned into another of its number, or went, or which another joined, and
--- that each still waits once.
+-- Errands that wait, after the one of a number was changed or went, and after another was put behind them: what each number looks up
+-- then, and that no number waits twice. Either nothing of a number changes, which is seen by a walk over the errands in front of the one
+-- that is changed, or the number is that one's own, which no errand behind it has.
 use Rattle.std.proofs.Common.{◌≡◌, ℕ, suc, pred, ◌≤◌, true, false, cond, eqb, leb, List, [], ◌∷◌, ◌++◌, length, Some, None, Option, sym, refl, ap, ◌∙◌, subst, ⊎_elim, arith}
 use Rattle.std.specs.List.{cons_option, filter_map}
-use Rattle.std.proofs.lemmas.Bool.{cases_Bool, cases_eq, cond-false, cond-true, eq-eqb, ne_eqb}
+use Rattle.std.proofs.lemmas.Bool.{cases_Bool, cases_eq, cond-false, cond-true, eq-eqb}
 use Rattle.std.proofs.lemmas.Bool.Decides.{nat_tests}
 use Rattle.model.specs.Queues.{distinct, errand_within, look, one_less}
 use Rattle.model.specs.declared.errands.Errand.{Errand}
+use Rattle.std.proofs.lemmas.List.{map-id}
+use Rattle.queue.proofs.AtNumber.{all_stay, at_number, other_stays}
 use Rattle.queue.proofs.LookupsAfter.{look_first, none_apart, none_behind, none_past}
 use Rattle.queue.proofs.Lookups.{FirstOnce, first_once, once_more}
 
--- The errand e' may wait in the place of e: it has its number, and is within its limits.
+-- The errand e' may wait in place of e: it has the same number, and is within its limits.
 pub record Remains (e e' : Errand) : Type 0 where
   pub number : e'.number ≡ e.number
   pub within : errand_within e' ≡ true
 
--- What is made of an errand within its limits, if it does not go, is such.
+-- What f makes of an errand within its limits, unless that goes, may wait in its place.
 abbrev pub KeepsNumber : (Errand → Option Errand) → Type 0
 KeepsNumber f = (e e' : Errand) → errand_within e ≡ true → f e ≡ Some e' → Remains e e'
 
--- The errand of the number n is turned.
-abbrev pub turned : (Errand → Option Errand) → ℕ → Errand → Option Errand
-turned f n e = cond (eqb e.number n) (f e) (Some e)
+-- The errand of the number n becomes what f makes of it, if anything.
+abbrev pub errand_at : (Errand → Option Errand) → ℕ → Errand → Option Errand
+errand_at = at_number (λ (e : Errand). e.number)
 
 pub none_keeps : KeepsNumber (λ _. None)
 none_keeps e e' within is = cc
@@ -37,65 +40,62 @@ less_keeps e e' within is =
     subst (Remains e) same (record { number = refl; within = fits }))
     (cases_Bool (leb e.units 1))
 
--- They are no more than before.
+-- There are no more than before.
 at_most : {A : Type 0} (o : Option A) (xs : List A) → length (cons_option o xs) ≤ suc (length xs)
 at_most None xs = omega arith
 at_most (Some x) xs = omega arith
 
-pub no_more : {A : Type 0} (turn : A → Option A) (xs : List A) → length (filter_map turn xs) ≤ length xs
-no_more turn [] = omega arith
-no_more turn (x ∷ xs) = omega (arith, at_most (turn x) (filter_map turn xs), no_more turn xs)
+pub no_more : {A : Type 0} (f : A → Option A) (xs : List A) → length (filter_map f xs) ≤ length xs
+no_more f [] = omega arith
+no_more f (x ∷ xs) = omega (arith, at_most (f x) (filter_map f xs), no_more f xs)
 
 module _ (f : Errand → Option Errand) (n : ℕ) where
-  turned_own : (e : Errand) → e.number ≡ n → turned f n e ≡ f e
-  turned_own e same = cond-true _ _ _ (eq-eqb _ _ same)
+  own_is_changed : (e : Errand) → e.number ≡ n → errand_at f n e ≡ f e
+  own_is_changed e same = cond-true _ _ _ (eq-eqb _ _ same)
 
-  turned_other : (e : Errand) → (e.number ≡ n → ⊥) → turned f n e ≡ Some e
-  turned_other e apart = cond-false _ _ _ (ne_eqb _ _ apart)
+  other_is_same : (e : Errand) → (e.number ≡ n → ⊥) → errand_at f n e ≡ Some e
+  other_is_same = other_stays (λ (x : Errand). x.number) f n
 
   -- Errands of other numbers stay.
-  untouched : (es : List Errand) → look es n ≡ None → filter_map (turned f n) es ≡ es
-  untouched [] none = refl
-  untouched (e ∷ es) none =
-      ap (λ o. cons_option o (filter_map (turned f n) es)) (turned_other e (none_apart e es n none))
-      ∙ ap (λ ys. e ∷ ys) (untouched es (none_behind e es n none))
+  untouched : (es : List Errand) → look es n ≡ None → filter_map (errand_at f n) es ≡ es
+  untouched es none = all_stay (λ (x : Errand). x) f n es (ap (λ ys. look ys n) (map-id es) ∙ none)
 
-  -- Behind the errand of the number, none is turned.
-  own_first : (e : Errand) (es : List Errand) → e.number ≡ n → FirstOnce e es → filter_map (turned f n) (e ∷ es) ≡ cons_option (f e) es
+  -- Behind the errand of the number, none is changed.
+  own_first : (e : Errand) (es : List Errand) → e.number ≡ n → FirstOnce e es → filter_map (errand_at f n) (e ∷ es) ≡ cons_option (f e) es
   own_first e es same once =
-      ap (λ o. cons_option o (filter_map (turned f n) es)) (turned_own e same)
+      ap (λ o. cons_option o (filter_map (errand_at f n) es)) (own_is_changed e same)
       ∙ ap (cons_option (f e)) (untouched es (ap (look es) (sym same) ∙ once.alone))
 
   other_first : (e : Errand) (es : List Errand) → (e.number ≡ n → ⊥) →
-      filter_map (turned f n) (e ∷ es) ≡ e ∷ filter_map (turned f n) es
-  other_first e es apart = ap (λ o. cons_option o (filter_map (turned f n) es)) (turned_other e apart)
+      filter_map (errand_at f n) (e ∷ es) ≡ e ∷ filter_map (errand_at f n) es
+  other_first e es apart = ap (λ o. cons_option o (filter_map (errand_at f n) es)) (other_is_same e apart)
 
-  module _ (turns : KeepsNumber f) where
-    -- What one errand turned into, in front of others.
+  module _ (keeps : KeepsNumber f) where
+    -- What one errand became, in front of others.
     look_own : (e : Errand) (es : List Errand) (o : Option Errand) → f e ≡ o → FirstOnce e es
         → look (cons_option o es) e.number ≡ o
     look_own e es None is once = once.alone
     look_own e es (Some e') is once =
-        let same = (turns e e' once.within is).number in
+        let same = (keeps e e' once.within is).number in
         ap (look (e' ∷ es)) (sym same) ∙ look_first e' es
 
     look_past : (e : Errand) (es : List Errand) (o : Option Errand) → f e ≡ o → errand_within e ≡ true → (k : ℕ) → (e.number ≡ k → ⊥)
         → look (cons_option o es) k ≡ look es k
     look_past e es None is within k apart = refl
     look_past e es (Some e') is within k apart =
-        none_past e' es k (λ same. apart (sym (turns e e' within is).number ∙ same))
+        none_past e' es k (λ same. apart (sym (keeps e e' within is).number ∙ same))
 
-    once_turned : (e : Errand) (es : List Errand) (o : Option Errand) → f e ≡ o → FirstOnce e es
+    first_changed_once : (e : Errand) (es : List Errand) (o : Option Errand) → f e ≡ o → FirstOnce e es
         → distinct (cons_option o es) ≡ true
-    once_turned e es None is once = once.rest
-    once_turned e es (Some e') is once =
-        let remains = turns e e' once.within is in
+    first_changed_once e es None is once = once.rest
+    first_changed_once e es (Some e') is once =
+        let remains = keeps e e' once.within is in
         once_more e' es (record { within = remains.within; alone = ap (look es) remains.number ∙ once.alone; rest = once.rest })
 
-    pub look_turned : (es : List Errand) (e : Errand) → distinct es ≡ true → look es n ≡ Some e
-        → look (filter_map (turned f n) es) n ≡ f e
-    look_turned [] e once found = cc
-    look_turned (x ∷ es) e once found =
+    pub look_changed : (es : List Errand) (e : Errand) → distinct es ≡ true → look es n ≡ Some e
+        → look (filter_map (errand_at f n) es) n ≡ f e
+    look_changed [] e once found = cc
+    look_changed (x ∷ es) e once found =
         let first = first_once x es once in
         ⊎_elim
         (λ (same : x.number ≡ n).
@@ -107,12 +107,12 @@ module _ (f : Errand → Option Errand) (n : ℕ) where
         ∙ ap f x-is)
         (λ (apart : x.number ≡ n → ⊥).
         ap (λ ys. look ys n) (other_first x es apart)
-        ∙ none_past x (filter_map (turned f n) es) n apart
-        ∙ look_turned es e first.rest (sym (none_past x es n apart) ∙ found))
+        ∙ none_past x (filter_map (errand_at f n) es) n apart
+        ∙ look_changed es e first.rest (sym (none_past x es n apart) ∙ found))
         (cases_eq x.number n)
 
     pub look_others : (es : List Errand) (k : ℕ) → distinct es ≡ true → (k ≡ n → ⊥)
-        → look (filter_map (turned f n) es) k ≡ look es k
+        → look (filter_map (errand_at f n) es) k ≡ look es k
     look_others [] k once other = refl
     look_others (x ∷ es) k once other =
         let first = first_once x es once in
@@ -127,23 +127,23 @@ module _ (f : Errand → Option Errand) (n : ℕ) where
         ∙ ap (cond (eqb x.number k) (Some x)) (look_others es k first.rest other))
         (cases_eq x.number n)
 
-    pub turned_once : (es : List Errand) → distinct es ≡ true → distinct (filter_map (turned f n) es) ≡ true
-    turned_once [] once = refl
-    turned_once (x ∷ es) once =
+    pub changed_once : (es : List Errand) → distinct es ≡ true → distinct (filter_map (errand_at f n) es) ≡ true
+    changed_once [] once = refl
+    changed_once (x ∷ es) once =
         let first = first_once x es once in
         ⊎_elim
-        (λ (same : x.number ≡ n). ap distinct (own_first x es same first) ∙ once_turned x es (f x) refl first)
+        (λ (same : x.number ≡ n). ap distinct (own_first x es same first) ∙ first_changed_once x es (f x) refl first)
         (λ (apart : x.number ≡ n → ⊥).
         ap distinct (other_first x es apart)
-        ∙ once_more x (filter_map (turned f n) es)
+        ∙ once_more x (filter_map (errand_at f n) es)
         (record {
           within = first.within;
           alone = look_others es x.number first.rest apart ∙ first.alone;
-          rest = turned_once es first.rest;
+          rest = changed_once es first.rest;
         }))
         (cases_eq x.number n)
 
--- An errand that joins behind.
+-- An errand that is put behind the others.
 pub look_joined : (es : List Errand) (e : Errand) → look es e.number ≡ None → look (es ++ e ∷ []) e.number ≡ Some e
 look_joined [] e none = look_first e []
 look_joined (x ∷ es) e none =
