@@ -36,8 +36,9 @@ fn release_all(work: &mut Workload, rows: u32, finishes: bool) {
     }
 }
 
-// Drives the table for so many ticks, with every job released as soon as it may be, and answers the sum of the
-// slacks before them. Where `finish` is 1, each job is ended at once; C has it as a number.
+/// Drives the table for so many ticks, with every job released as soon as it may be, and answers the sum of the slacks before them,
+/// which wraps at 2^64. The bytes are the rows, six to a row: cost, deadline and separation, each of two bytes, the lower first. Where
+/// `finish` is 1, each job is ended at once; C has it as a number.
 #[unsafe(no_mangle)]
 pub extern "C" fn bench_drive(bytes: &[u8], ticks: u32, finish: u32) -> u64 {
     let setting = table_in(bytes);

@@ -7,7 +7,8 @@ use Rattle.model.specs.declared.calls.Call.TheVariants.{Request, Withdraw}
 use Rattle.queue.specs.Untouched.{Leaves}
 
 module _ {Q : Type 0} where
-  -- A request and a withdraw pass to the queue, which says itself what it then is; any other call leaves the queue itself.
+  -- What the queue is after a call that adds nothing to its history: after a request or a withdraw it is what the queue says
+  -- itself, by u; after any other call it is as it was.
   abbrev pub LeftBy : (Q → Q → Type 0) → Call → Q → Q → Type 0
   LeftBy u (Request e) q q' = u q q'
   LeftBy u (Withdraw n) q q' = u q q'

@@ -1,5 +1,6 @@
-// The calls of a running dispatcher. Each answers and leaves what the machine's step says. A refused call leaves the workload as it was. It leaves the queue as it
-// was too, but for a request and a withdraw: these make one call of the queue, and the queue says itself what its refusal leaves.
+// A dispatcher and its calls. Each call answers and leaves what the machine's step says. A refused call leaves the workload as it
+// was. It leaves the queue as it was too, but for a request and a withdraw: these make one call of the queue, and the queue says
+// itself what its refusal leaves.
 ghost use Rattle.std.specs.Prelude.{◌≡◌, [], OnErr};
 ghost use Rattle.model.specs.Histories.{GoesOn, by_call, by_put, by_take, by_tick};
 ghost use Rattle.model.specs.Machine.{Requested, RowCalled, Step, Ticks, Withdraws, fresh, slack_of, tick_answer, waits};
@@ -28,7 +29,7 @@ pub struct Dispatcher<Q> {
 impl<Q: Queue> Dispatcher<Q> {
     ghost use Rattle.dispatcher.specs.Views.{answer_of, view};
 
-    // Starts a setting over a queue, whatever the queue holds.
+    /// Starts a setting over a queue, whatever the queue holds: the clock is 0, and every row is idle and may be released at once.
     pub fn start(setting: Setting, queue: Q) -> Dispatcher<Q>
         ensures state { view Q.meaning result ≡ fresh (table_of setting) (Q.meaning queue) }
         ensures queue { result.queue ≡ queue }
@@ -39,7 +40,7 @@ impl<Q: Queue> Dispatcher<Q> {
         }
     }
 
-    // Releases a job of a row.
+    /// Releases a job of a row. Refused 1 where there is no such row, and 5 where the row may not be released yet.
     pub fn release(&mut self, row: u32) -> Result<(), Refusal>
         ensures step { RowCalled (work_in self.old.work) row Release result (work_in self.new.work) }
         ensures queue { self.new.queue ≡ self.old.queue }
@@ -48,7 +49,7 @@ impl<Q: Queue> Dispatcher<Q> {
         self.work.release(row)
     }
 
-    // Ends the job of a row before it has had all its ticks.
+    /// Ends the job of a row before it has had all its ticks. Refused 1 where there is no such row, and 6 where the row has no job.
     pub fn done(&mut self, row: u32) -> Result<(), Refusal>
         ensures step { RowCalled (work_in self.old.work) row Done result (work_in self.new.work) }
         ensures queue { self.new.queue ≡ self.old.queue }
@@ -57,7 +58,10 @@ impl<Q: Queue> Dispatcher<Q> {
         self.work.done(row)
     }
 
-    // Has an errand wait.
+    /// Has an errand wait.
+    ///
+    /// Refused 8 where its units are not from 1 to 4,096 or its worth is above 65,535, 9 where an errand of its number waits already,
+    /// and 10 where as many errands wait as the queue has room for. Where several fit, it is the one of the smallest number.
     pub fn request(&mut self, errand: Errand) -> Result<(), Refusal>
         ensures step { Requested (view Q.meaning self.old) errand result (view Q.meaning self.new) }
         ensures history { GoesOn Q.arises self.old.queue (by_put errand result) self.new.queue }
@@ -67,7 +71,8 @@ impl<Q: Queue> Dispatcher<Q> {
         self.queue.put(errand)
     }
 
-    // Drops an errand, and answers the units that it had left.
+    /// Takes out the errand of a number, and answers the units that it had left, 1 to 4,096. Refused 11 where none of this number
+    /// waits.
     pub fn withdraw(&mut self, number: u32) -> Result<u32, Refusal>
         ensures step { Withdraws (view Q.meaning self.old) number result (view Q.meaning self.new) }
         ensures history { GoesOn Q.arises self.old.queue (by_take number result) self.new.queue }
@@ -77,7 +82,8 @@ impl<Q: Queue> Dispatcher<Q> {
         self.queue.take(number)
     }
 
-    // The table's slack.
+    /// The table's slack in ticks, with the releases for the clock over; 65,535 where the table has no rows. It is never refused, and
+    /// changes nothing.
     pub fn slack(&self) -> u32
         ensures { result ≡ slack_of (work_in self.now.work) }
     {
@@ -91,7 +97,11 @@ impl<Q: Queue> Dispatcher<Q> {
         self.queue.name().is_some()
     }
 
-    // One tick: the slack before it, and who had it. Unless an errand had it, the queue stays.
+    /// One tick of the processor: it answers the table's slack before the tick, and who had it. The errand that the queue names has it
+    /// where one waits and the slack is at least 1, else the ready row of the smallest number, else nobody. Unless an errand had it, the
+    /// queue stays as it was.
+    ///
+    /// Refused 7 where the clock is at its last value, 4,294,967,295.
     pub fn tick(&mut self) -> Result<(u32, Who), Refusal>
         ensures step { Ticks (view Q.meaning self.old) result (view Q.meaning self.new) }
         ensures history { GoesOn Q.arises self.old.queue (by_tick (tick_answer result)) self.new.queue }
@@ -107,7 +117,7 @@ impl<Q: Queue> Dispatcher<Q> {
         Ok((slack, who))
     }
 
-    // Any of the six calls, with its answer.
+    /// Makes any of the six calls, and gives its answer, a refusal among them.
     pub fn carry_out(&mut self, call: Call) -> Answer
         ensures step { Step (view Q.meaning self.old) call result (view Q.meaning self.new) }
         ensures history { GoesOn Q.arises self.old.queue (by_call call result) self.new.queue }

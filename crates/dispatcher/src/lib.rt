@@ -1,4 +1,4 @@
-// The dispatcher: it gives each tick to a duty or, where that can hurt nobody, to an errand of any queue.
+//! The dispatcher: it gives each tick to a duty or, where no deadline can be missed by it, to an errand of any queue.
 #![tactic(auto)]
 
 mod dispatchers;

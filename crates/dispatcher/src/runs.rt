@@ -14,12 +14,14 @@ use crate::entries::Entry;
 use queue::Queue;
 use table::Setting;
 
-// Starts a setting over a queue, carries out a script of calls, writes each answer beside its call, and hands the
-// dispatcher back. Whatever the queue holds at the start and whatever the calls are: answers and state are the
-// machine's, every deadline is met, each spare tick goes to an errand exactly when that can hurt nobody, and the
-// accounts of every errand balance. Which errand has such a tick goes by the queue's choice over all that happened to it. A call that
-// adds nothing to this leaves the queue as it was, or as the queue says that a refused request or withdraw leaves it. So a script
-// of such calls alone leaves what as many refusals leave.
+/// Starts a setting over a queue, carries out a script of calls, writes each answer beside its call, and hands the dispatcher back.
+///
+/// Whatever the queue holds at the start and whatever the calls are: the answers and the state at the end are the machine's. Every
+/// deadline is met. An errand has each tick before which one waits, exactly where no lawful future can then miss a deadline. The
+/// accounts of every errand balance. Which errand has such a tick goes by the queue's choice over all that happened to it.
+///
+/// A call that adds nothing to what happened to the queue leaves it as it was, or as the queue says that a refused request or withdraw
+/// leaves it. So a script of such calls alone leaves what as many refusals leave.
 pub fn run<Q: Queue>(setting: Setting, queue: Q, script: &mut [Entry]) -> Dispatcher<Q>
     ensures promise { Promise (fresh (table_of setting) (Q.meaning queue)) (trace_of script.new) (view Q.meaning result) }
     ensures calls { calls_of script.new ≡ calls_of script.old }

@@ -34,7 +34,7 @@ fn tick<Q: Queue>(rt: &HostRuntime, dispatcher: &mut Dispatcher<Q>) -> io::Resul
 }
 
 // What a call that may be refused answered, printed.
-fn told(rt: &HostRuntime, word: &str, answer: Result<(), Refusal>) -> io::Result<()> {
+fn print_answer(rt: &HostRuntime, word: &str, answer: Result<(), Refusal>) -> io::Result<()> {
     match answer {
         Ok(()) => println!(rt; "{word} accepted"),
         Err(why) => println!(rt; "{word} refused {}", why.number()),
@@ -113,11 +113,11 @@ fn drive(rt: &HostRuntime, setting: Setting) -> io::Result<()> {
     let mut slots = [Slot::free(); 2];
     let mut dispatcher = Dispatcher::start(setting, FirstCome::new(&mut slots));
     tick(rt, &mut dispatcher)?;
-    told(rt, "release 0", dispatcher.release(0))?;
-    told(rt, "release 0", dispatcher.release(0))?;
-    told(rt, "release 3", dispatcher.release(3))?;
-    told(rt, "done 3", dispatcher.done(3))?;
-    told(rt, "done 1", dispatcher.done(1))?;
+    print_answer(rt, "release 0", dispatcher.release(0))?;
+    print_answer(rt, "release 0", dispatcher.release(0))?;
+    print_answer(rt, "release 3", dispatcher.release(3))?;
+    print_answer(rt, "done 3", dispatcher.done(3))?;
+    print_answer(rt, "done 1", dispatcher.done(1))?;
     request(rt, &mut dispatcher, 7, 2)?;
     request(rt, &mut dispatcher, 7, 2)?;
     request(rt, &mut dispatcher, 8, 4096)?;

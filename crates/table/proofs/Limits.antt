@@ -1,12 +1,12 @@
 -- What the limits of duties say of the sums over them.
-use Rattle.std.proofs.Common.{◌≡◌, ℕ, zero, suc, ◌+◌, ◌*◌, ◌<◌, ◌≤◌, true, List, [], ◌∷◌, length, get_or, take, drop, refl, ◌∙◌, mul-le-mul, arith}
+use Rattle.std.proofs.Common.{◌≡◌, ℕ, zero, suc, ◌+◌, ◌*◌, ◌<◌, ◌≤◌, true, List, [], ◌∷◌, length, take, drop, refl, ◌∙◌, mul-le-mul, arith}
 use Rattle.std.proofs.lemmas.List.{at_drop_more}
 use Rattle.std.proofs.lemmas.Bool.{and_from, and_parts}
 use Rattle.std.specs.Int.{div_ceil}
 use Rattle.table.proofs.DivCeil.{div_ceil_is}
 use Rattle.model.proofs.Admitted.{limits_of}
 use Rattle.model.proofs.Ceil.{ceil_at_most}
-use Rattle.model.specs.Table.{all_within, busy, ceil, no_duty}
+use Rattle.model.specs.Table.{all_within, busy, ceil, duty_at, no_duty}
 use Rattle.model.specs.declared.duties.Duty.{Duty}
 
 -- Sixteen rows ask less than 2⁴⁸ in any number of ticks of 32 bits.
@@ -19,17 +19,23 @@ busy_at_most (d ∷ ds) w h fits =
     let one : d.cost * ceil w d.separation ≤ 4096 * 4294967296 = mul-le-mul few jobs in
     omega (arith, busy_at_most ds w (and_parts _ _ h).1 fits)
 
--- What a turn adds to the sum, and the rows that remain to be added.
-pub busy_turn : (ds : List Duty) (k w sum cost jobs : ℕ) → k < length ds → 1 ≤ (get_or ds k no_duty).separation
-    → cost ≡ (get_or ds k no_duty).cost
-    → jobs ≡ div_ceil w (get_or ds k no_duty).separation
-    → sum + busy (drop k ds) w ≡ busy ds w
-    → sum + cost * jobs + busy (drop (k + 1) ds) w ≡ busy ds w
-busy_turn ds k w sum cost jobs lt some costs are so_far =
-    let more : busy (drop k ds) w ≡ (get_or ds k no_duty).cost * ceil w (get_or ds k no_duty).separation + busy (drop (k + 1) ds) w =
-    at_drop_more (λ rest. busy rest w) ds k no_duty lt in
-    let counted : jobs ≡ ceil w (get_or ds k no_duty).separation = are ∙ div_ceil_is w _ some in
-    rw (costs, counted) (omega arith)
+module _ (ds : List Duty) (w k : ℕ) where
+  -- Row k of the sum: its cost, and its jobs within w ticks.
+  pub record RowBusy (cost jobs : ℕ) : Type 0 where
+    pub inside : k < length ds
+    pub apart : 1 ≤ (duty_at ds k).separation
+    pub costs : cost ≡ (duty_at ds k).cost
+    pub counts : jobs ≡ div_ceil w (duty_at ds k).separation
+
+  -- The sum with row k more, and the rows that remain to be added.
+  pub busy_more : (sum cost jobs : ℕ) → RowBusy cost jobs
+      → sum + busy (drop k ds) w ≡ busy ds w
+      → sum + cost * jobs + busy (drop (k + 1) ds) w ≡ busy ds w
+  busy_more sum cost jobs row so_far =
+      let more : busy (drop k ds) w ≡ (duty_at ds k).cost * ceil w (duty_at ds k).separation + busy (drop (k + 1) ds) w =
+      at_drop_more (λ rest. busy rest w) ds k no_duty row.inside in
+      let counted : jobs ≡ ceil w (duty_at ds k).separation = row.counts ∙ div_ceil_is w _ row.apart in
+      rw (row.costs, counted) (omega arith)
 
 -- The first rows of a table within its limits are within theirs.
 pub within_take : (n : ℕ) (ds : List Duty) → all_within ds ≡ true → all_within (take n ds) ≡ true

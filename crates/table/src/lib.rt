@@ -1,4 +1,4 @@
-// The duty table: a setting to which duties are added, each addition admitted by response-time analysis.
+//! The duty table: a setting to which duties are added, each addition admitted by response-time analysis.
 #![tactic(auto)]
 
 mod analysis;

@@ -68,6 +68,8 @@ impl Setting {
 
     /// The response time of a row in ticks, from 1 to its deadline: the least number of ticks that suffices for a job of the row and for
     /// every job of a more urgent row that can come meanwhile. Refused 1 where there is no such row.
+    ///
+    /// It is the response time of R. I. Davis, *On Exploiting Spare Capacity in Hard Real-Time Systems*, for whole ticks.
     pub fn response(&self, row: u32) -> Result<u32, Refusal>
         ensures { Responds (table_of self.now) row result }
     {

@@ -13,7 +13,7 @@ use Rattle.model.specs.Table.{ceil, duty_at, within_limits}
 use Rattle.model.specs.declared.duties.Duty.{Duty}
 use Rattle.model.specs.declared.rows.Row.{Row}
 use Rattle.model.specs.declared.rows.Row.TheVariants.{Idle, Ready}
-use Rattle.workload.specs.Streams.{all_ask, all_tame, asks, stream_of, streams_of, tame}
+use Rattle.workload.specs.Streams.{all_ask, all_bounded, asks, stream_of, streams_of, bounded}
 use Rattle.workload.specs.declared.streams.Stream.{Stream}
 
 -- What is known of one row: its duty's limits, its numbers, and that its next release and the end of its window lie
@@ -78,7 +78,7 @@ streams_at clock (duty ∷ table) [] i s same lt = absurd (omega arith)
 streams_at clock (duty ∷ table) (row ∷ rows) zero s same lt = refl
 streams_at clock (duty ∷ table) (row ∷ rows) (suc i) s same lt = streams_at clock table rows i s (omega arith) (omega arith)
 
--- They are tame.
+-- Their numbers are bounded.
 left_small : (clock : ℕ) (duty : Duty) (row : Row) → Limits duty → RowNumbers clock duty row → left_of row ≤ 4096
 left_small clock duty (Idle e) l n = omega arith
 left_small clock duty (Ready c d e) l n = omega (arith, n.1, l.cost_fits, l.deadline_fits, l.separation_fits)
@@ -87,8 +87,8 @@ first_small : (clock : ℕ) (duty : Duty) (row : Row) → Limits duty → RowNum
 first_small clock duty (Idle e) l n = omega (arith, l.cost_some, l.cost_fits, l.deadline_fits, l.separation_fits)
 first_small clock duty (Ready c d e) l n = omega (arith, n.3, l.separation_fits)
 
-stream_tame : (clock : ℕ) (duty : Duty) (row : Row) → RowAhead clock duty row → tame (stream_of clock duty row) ≡ true
-stream_tame clock duty row h =
+stream_bounded : (clock : ℕ) (duty : Duty) (row : Row) → RowAhead clock duty row → bounded (stream_of clock duty row) ≡ true
+stream_bounded clock duty row h =
     let l = limits_of duty h.limits in
     let n = row_kept_gives clock duty row h.numbers in
     let small : duty.cost ≤ 4096 = omega (arith, l.cost_fits, l.deadline_fits, l.separation_fits) in
@@ -101,10 +101,10 @@ stream_tame clock duty row h =
     (le-leb _ _ some))
     (le-leb _ _ l.separation_fits)
 
-pub streams_tame : (clock : ℕ) (table : List Duty) (rows : List Row) → length rows ≡ length table
-    → ((i : ℕ) → i < length table → RowAhead clock (duty_at table i) (row_at rows i)) → all_tame (streams_of clock table rows) ≡ true
-streams_tame clock [] rows same ahead = refl
-streams_tame clock (duty ∷ table) [] same ahead = refl
-streams_tame clock (duty ∷ table) (row ∷ rows) same ahead =
-    and_from _ _ (stream_tame clock duty row (ahead 0 (omega arith)))
-    (streams_tame clock table rows (omega arith) (λ i lt. ahead (suc i) (omega arith)))
+pub streams_bounded : (clock : ℕ) (table : List Duty) (rows : List Row) → length rows ≡ length table
+    → ((i : ℕ) → i < length table → RowAhead clock (duty_at table i) (row_at rows i)) → all_bounded (streams_of clock table rows) ≡ true
+streams_bounded clock [] rows same ahead = refl
+streams_bounded clock (duty ∷ table) [] same ahead = refl
+streams_bounded clock (duty ∷ table) (row ∷ rows) same ahead =
+    and_from _ _ (stream_bounded clock duty row (ahead 0 (omega arith)))
+    (streams_bounded clock table rows (omega arith) (λ i lt. ahead (suc i) (omega arith)))

@@ -1,7 +1,7 @@
 pub mod Ahead
-pub mod Asked
-pub mod Idling
+pub mod Bounds
+pub mod DutyTicks
+pub mod IdleTicks
 pub mod Minimum
-pub mod Reckoned
-pub mod Running
-pub mod Tame
+pub mod RowCalls
+pub mod RowSlacks

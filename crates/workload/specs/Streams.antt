@@ -15,13 +15,13 @@ abbrev pub all_ask : List Stream → ℕ → ℕ
 all_ask [] w = 0
 all_ask (s ∷ ss) w = asks s w + all_ask ss w
 
--- Numbers small enough that no sum of sixteen streams over a window passes 32 bits.
-abbrev pub tame : Stream → Bool
-tame s = nat_le s.left 4096 && nat_le s.first 4096 && nat_le s.cost 4096 && nat_le 1 s.separation && nat_le s.separation 4096
+-- Each number of the stream is at most 4,096, so that no sum of sixteen streams over a window passes 32 bits.
+abbrev pub bounded : Stream → Bool
+bounded s = nat_le s.left 4096 && nat_le s.first 4096 && nat_le s.cost 4096 && nat_le 1 s.separation && nat_le s.separation 4096
 
-abbrev pub all_tame : List Stream → Bool
-all_tame [] = true
-all_tame (s ∷ ss) = tame s && all_tame ss
+abbrev pub all_bounded : List Stream → Bool
+all_bounded [] = true
+all_bounded (s ∷ ss) = bounded s && all_bounded ss
 
 -- The stream of a row from a clock on, with the releases for the clock over.
 abbrev pub stream_of : ℕ → Duty → Row → Stream
@@ -35,6 +35,5 @@ stream_of clock duty row =
 
 -- The streams of all rows.
 abbrev pub streams_of : ℕ → List Duty → List Row → List Stream
-streams_of clock [] rows = []
-streams_of clock (duty ∷ table) [] = []
 streams_of clock (duty ∷ table) (row ∷ rows) = stream_of clock duty row ∷ streams_of clock table rows
+streams_of clock table rows = []

@@ -1,10 +1,10 @@
-// The hard side of the dispatcher: a table, the state of each of its rows and the clock, with the exact slack.
+//! The hard side of the dispatcher: a duty table, the state of each of its rows and the clock, with the exact slack.
 #![tactic(auto)]
 
-mod acts;
+mod calls;
+mod demands;
 mod slack;
 mod streams;
-mod stretches;
 #[cfg(test)]
 mod tests;
 mod workloads;

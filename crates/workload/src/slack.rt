@@ -9,7 +9,7 @@ ghost use Rattle.workload.specs.Streams.{stream_of};
 ghost use Rattle.workload.specs.Workloads.{work_in};
 
 use crate::streams::Stream;
-use crate::stretches::Demand;
+use crate::demands::Demand;
 use crate::workloads::Workload;
 use arrayvec::ArrayVec;
 use model::{Duty, Row};
@@ -60,7 +60,11 @@ impl Ahead {
 }
 
 impl Workload {
-    // The table's slack, with the releases for the clock over: the least over the rows, 65,535 if there are none.
+    /// The table's slack in ticks, with the releases for the clock over: the least over the rows of the row's slack, 65,535 where there
+    /// are no rows. A row's slack is the number of ticks that neither the row nor a more urgent one can need, up to the deadline of its
+    /// job, or of the next job that can come.
+    ///
+    /// It is the exact dynamic slack of R. I. Davis, *On Exploiting Spare Capacity in Hard Real-Time Systems*, for whole ticks.
     pub fn slack(&self) -> u32
         ensures { result ≡ slack_of (work_in self.now) }
     {

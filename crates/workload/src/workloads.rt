@@ -6,16 +6,18 @@ ghost use Rattle.model.specs.declared.rows.RowCall.TheVariants.{Release, Done};
 ghost use Rattle.table.specs.Settings.{table_of};
 ghost use Rattle.workload.specs.Slots.{work_of};
 
-use crate::acts::act;
+use crate::calls::apply;
 use model::{Refusal, Row, RowCall, Who};
 use table::{MOST_ROWS, Setting};
 
-// A table, the state of each of its rows, and the clock. None can exist in which a row's slack is below 0.
+/// The work of a running dispatcher: its duty table, the state of each of the table's rows, and the clock.
+///
+/// None can exist in which a row's slack is below 0, so none in which a job has missed its deadline.
 #[derive(Drop)]
 pub struct Workload {
     pub(crate) setting: Setting,
-    // One slot for each row that a table can have; the first as many as the setting has duties are in use. A vector would keep
-    // a second count, which would have to equal the setting's.
+    // One slot for each row that a table can have. The first slots are in use, as many as the setting has duties. A vector would
+    // keep a second count, which would have to equal the setting's.
     pub(crate) rows: [Row; MOST_ROWS],
     pub(crate) clock: u32,
     ghost keeps: { kept (work_of (table_of setting) clock rows) ≡ true },
@@ -26,7 +28,7 @@ pub struct Workload {
 impl Workload {
     ghost use Rattle.workload.specs.Workloads.{work_in};
 
-    // At the start the clock is 0 and every row is idle and may be released at once.
+    /// Starts a setting: the clock is 0, and every row is idle and may be released at once.
     pub fn start(setting: Setting) -> Workload
         ensures work { work_in result ≡ fresh_work (table_of setting) }
         ensures setting { result.setting ≡ setting }
@@ -38,23 +40,31 @@ impl Workload {
         }
     }
 
+    /// Releases a job of a row at the clock: it has the cost of the row's duty left and is due a deadline later, and the row may be
+    /// released again a separation later.
+    ///
+    /// Refused 1 where there is no such row, and 5 where the row may not be released yet. A refusal changes nothing.
     pub fn release(&mut self, row: u32) -> Result<(), Refusal>
         ensures step { RowCalled (work_in self.old) row Release result (work_in self.new) }
         ensures setting { self.new.setting ≡ self.old.setting }
         ensures refused { OnErr result (self.new ≡ self.old) }
     {
-        self.ask(row, RowCall::Release)
+        self.call(row, RowCall::Release)
     }
 
+    /// Ends the job of a row, whatever is left of it.
+    ///
+    /// Refused 1 where there is no such row, and 6 where the row has no job. A refusal changes nothing.
     pub fn done(&mut self, row: u32) -> Result<(), Refusal>
         ensures step { RowCalled (work_in self.old) row Done result (work_in self.new) }
         ensures setting { self.new.setting ≡ self.old.setting }
         ensures refused { OnErr result (self.new ≡ self.old) }
     {
-        self.ask(row, RowCall::Done)
+        self.call(row, RowCall::Done)
     }
 
-    fn ask(&mut self, row: u32, call: RowCall) -> Result<(), Refusal>
+    // A call to a row.
+    fn call(&mut self, row: u32, call: RowCall) -> Result<(), Refusal>
         ensures step { RowCalled (work_in self.old) row call result (work_in self.new) }
         ensures setting { self.new.setting ≡ self.old.setting }
         ensures refused { OnErr result (self.new ≡ self.old) }
@@ -63,11 +73,13 @@ impl Workload {
         let Some(&duty) = self.setting.duties().get(row) else {
             return Err(Refusal::NoSuchRow);
         };
-        act(&mut self.rows[row], call, duty, self.clock)
+        apply(&mut self.rows[row], call, duty, self.clock)
     }
 
-    // One tick. It is to spare exactly if an errand waits and the slack is at least 1; otherwise the first ready row
-    // has it, or nobody.
+    /// One tick. It answers the table's slack before the tick, and who had it: `None` where the tick is to spare for an errand, which is
+    /// exactly where an errand waits and the slack is at least 1. Otherwise the ready row of the smallest number has it, or nobody.
+    ///
+    /// Refused 7 where the clock is at its last value, 4,294,967,295. A refusal changes nothing.
     pub fn tick(&mut self, errand_waits: bool) -> Result<(u32, Option<Who>), Refusal>
         ensures step { WorkTicks (work_in self.old) errand_waits result (work_in self.new) }
         ensures setting { self.new.setting ≡ self.old.setting }
@@ -86,7 +98,7 @@ impl Workload {
         Ok((slack, turn))
     }
 
-    // The first ready row has a tick, or nobody.
+    // The first ready row has the tick, or nobody.
     fn run(&mut self) -> Who
         requires { self.old.clock < last_clock }
         ensures who { result ≡ duty_turn (work_in self.old) }
@@ -96,7 +108,7 @@ impl Workload {
         let who = match self.first_ready() {
             Some(row) => {
                 let row = row as u32;
-                let _ = self.ask(row, RowCall::Run);
+                let _ = self.call(row, RowCall::Run);
                 Who::Duty(row)
             }
             None => Who::Nobody,

@@ -20,11 +20,11 @@ invariant_of-self c =
 pub returns-in-Some-clause-leaves : goal.returns-in-Some-clause-leaves
 returns-in-Some-clause-leaves c =
     let table = table_of c.args.self.now in
-    let late : first_unschedulable (insert table c.args.place c.args.duty) ≡ Some c.in-Some.row =
+    let first : first_unschedulable (insert table c.args.place c.args.duty) ≡ Some c.in-Some.row =
     sym (ap first_unschedulable (c.deref.ensures.0 ∙ c.insert.ensures.items)) ∙ sym c.first_unschedulable.ensures ∙ c.in-Some.is in
     let refused : add_refusal table c.args.place c.args.duty ≡ 4 ∷ c.in-Some.row ∷ [] =
     by_analysis table c.args.place c.args.duty (omega arith) (sym c.if-not-within_limits.ensures)
     (omega (arith, c.insert.ensures.len, c.deref.ensures.1, ap length c.deref.ensures.0))
-    ∙ ap unschedulable_refusal late in
+    ∙ ap unschedulable_refusal first in
     taken_out table _ _ c.args.place c.args.duty (omega arith) c.insert.ensures.items c.remove.ensures.items
     ∙ sym (refused_leaves table c.args.place c.args.duty _ _ refused)

@@ -1,6 +1,6 @@
 use Rattle.std.proofs.Common.{◌≡◌, length}
 use Rattle.workload.proofs.Minimum.{least_of}
-use Rattle.workload.proofs.Reckoned.{first_streams, slacks}
+use Rattle.workload.proofs.RowSlacks.{first_streams, slacks}
 use Rattle.workload.proofs.workloads.Workload.slack.Given as goal
 
 -- The streams of the rows so far, and the least of their slacks.

@@ -1,4 +1,4 @@
-use Rattle.std.proofs.Common.{◌≡◌, ◌≤◌, length, take, replicate, ap, ◌∙◌, sym}
+use Rattle.std.proofs.Common.{◌≡◌, ◌≤◌, length, replicate, ap, ◌∙◌}
 use Rattle.std.proofs.lemmas.List.{drop-replicate, take-replicate}
 use Rattle.model.proofs.Admitted.{admitted_says}
 use Rattle.model.proofs.Spare.{fresh_keeps}
@@ -10,7 +10,7 @@ use Rattle.table.specs.declared.settings.Setting.{Setting}
 use Rattle.workload.specs.Slots.{work_of}
 use Rattle.workload.proofs.workloads.Workload.start.Goals as goal
 
--- The first of sixteen idle records are the fresh rows.
+-- The first of sixteen idle slots are the fresh rows.
 fresh_slots : (s : Setting) → work_of (table_of s) 0 (replicate 16 (Idle 0)) ≡ fresh_work (table_of s)
 fresh_slots s =
     let few : length (table_of s) ≤ 16 = (admitted_says (table_of s) s.admits).few in

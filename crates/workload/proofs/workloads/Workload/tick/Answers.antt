@@ -1,7 +1,7 @@
 use Rattle.std.proofs.Common.{◌≤◌, arith}
 use Rattle.model.proofs.Ticks.{spare_tick_keeps}
 use Rattle.model.specs.Machine.{slack_of}
-use Rattle.workload.proofs.Asked.{keeps_in}
+use Rattle.workload.proofs.RowCalls.{keeps_in}
 use Rattle.workload.specs.Workloads.{work_in}
 use Rattle.workload.proofs.workloads.Workload.tick.Goals as goal
 

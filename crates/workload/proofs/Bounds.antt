@@ -1,21 +1,21 @@
--- What tame streams ask for: sums that fit, that do not fall, and that stand still between jobs.
+-- What streams with bounded numbers ask for: sums that fit, that do not fall, and that stand still between jobs.
 use Rattle.std.proofs.Common.{◌≡◌, ℕ, zero, suc, ◌+◌, ◌-◌, ◌*◌, ◌<◌, ◌≤◌, min, true, List, [], ◌∷◌, ◌++◌, length, get_or, take, drop, refl, ap, ◌∙◌, div-mul-le_self, mul-le-mul, mul-le-mul_left, arith}
 use Rattle.std.proofs.lemmas.List.{at_drop_more, take_more}
 use Rattle.std.proofs.lemmas.Bool.{and_from, and_parts, leb-true}
 use Rattle.model.specs.Table.{ceil}
 use Rattle.model.proofs.Ceil.{ceil_at_most, ceil_covers, ceil_mono, ceil_whole}
-use Rattle.workload.specs.Streams.{all_ask, all_tame, asks, tame}
+use Rattle.workload.specs.Streams.{all_ask, all_bounded, asks, bounded}
 use Rattle.workload.specs.declared.streams.Stream.{Stream}
 
-pub record Tame (s : Stream) : Type 0 where
+pub record Bounds (s : Stream) : Type 0 where
   pub left_small : s.left ≤ 4096
   pub first_small : s.first ≤ 4096
   pub cost_small : s.cost ≤ 4096
   pub apart : 1 ≤ s.separation
   pub separation_small : s.separation ≤ 4096
 
-pub tame_says : (s : Stream) → tame s ≡ true → Tame s
-tame_says s h =
+pub bounds_of : (s : Stream) → bounded s ≡ true → Bounds s
+bounds_of s h =
     let fifth = and_parts _ _ h in
     let fourth = and_parts _ _ fifth.0 in
     let third = and_parts _ _ fourth.0 in
@@ -31,52 +31,52 @@ tame_says s h =
 abbrev pub no_stream : Stream
 no_stream = record { left = 0; first = 0; cost = 0; separation = 0 }
 
-pub tame_at : (ss : List Stream) (k : ℕ) → all_tame ss ≡ true → k < length ss → Tame (get_or ss k no_stream)
-tame_at [] k h lt = absurd (omega arith)
-tame_at (s ∷ ss) zero h lt = tame_says s (and_parts _ _ h).0
-tame_at (s ∷ ss) (suc k) h lt = tame_at ss k (and_parts _ _ h).1 (omega arith)
+pub bounds_at : (ss : List Stream) (k : ℕ) → all_bounded ss ≡ true → k < length ss → Bounds (get_or ss k no_stream)
+bounds_at [] k h lt = absurd (omega arith)
+bounds_at (s ∷ ss) zero h lt = bounds_of s (and_parts _ _ h).0
+bounds_at (s ∷ ss) (suc k) h lt = bounds_at ss k (and_parts _ _ h).1 (omega arith)
 
-pub tame_take : (n : ℕ) (ss : List Stream) → all_tame ss ≡ true → all_tame (take n ss) ≡ true
-tame_take zero ss h = refl
-tame_take (suc n) [] h = refl
-tame_take (suc n) (s ∷ ss) h =
+pub bounded_take : (n : ℕ) (ss : List Stream) → all_bounded ss ≡ true → all_bounded (take n ss) ≡ true
+bounded_take zero ss h = refl
+bounded_take (suc n) [] h = refl
+bounded_take (suc n) (s ∷ ss) h =
     let both = and_parts _ _ h in
-    and_from _ _ both.0 (tame_take n ss both.1)
+    and_from _ _ both.0 (bounded_take n ss both.1)
 
 -- The jobs of a stream within 8,193 ticks.
-pub jobs_small : (s : Stream) (w : ℕ) → Tame s → w ≤ 8193 → s.cost * ceil (w - s.first) s.separation ≤ 33558528
+pub jobs_small : (s : Stream) (w : ℕ) → Bounds s → w ≤ 8193 → s.cost * ceil (w - s.first) s.separation ≤ 33558528
 jobs_small s w t le =
     let few : s.cost ≤ 4096 = t.cost_small in
     let jobs : ceil (w - s.first) s.separation ≤ 8193 = omega (arith, ceil_at_most (w - s.first) s.separation t.apart) in
     mul-le-mul few jobs
 
-pub asks_small : (s : Stream) (w : ℕ) → Tame s → w ≤ 8193 → asks s w ≤ 33562624
+pub asks_small : (s : Stream) (w : ℕ) → Bounds s → w ≤ 8193 → asks s w ≤ 33562624
 asks_small s w t le = omega (arith, jobs_small s w t le, t.left_small)
 
-pub all_ask_small : (ss : List Stream) (w : ℕ) → all_tame ss ≡ true → w ≤ 8193 → all_ask ss w ≤ length ss * 33562624
+pub all_ask_small : (ss : List Stream) (w : ℕ) → all_bounded ss ≡ true → w ≤ 8193 → all_ask ss w ≤ length ss * 33562624
 all_ask_small [] w h le = omega arith
 all_ask_small (s ∷ ss) w h le =
-    let both = and_parts (tame s) (all_tame ss) h in
-    omega (arith, asks_small s w (tame_says s both.0) le, all_ask_small ss w both.1 le)
+    let both = and_parts (bounded s) (all_bounded ss) h in
+    omega (arith, asks_small s w (bounds_of s both.0) le, all_ask_small ss w both.1 le)
 
 -- Within more ticks a stream asks for no less.
-asks_rising : (s : Stream) (v w : ℕ) → v ≤ w → asks s v ≤ asks s w
-asks_rising s v w le =
+asks_monotone : (s : Stream) (v w : ℕ) → v ≤ w → asks s v ≤ asks s w
+asks_monotone s v w le =
     omega (arith, mul-le-mul_left s.cost (ceil_mono (v - s.first) (w - s.first) s.separation (omega arith)))
 
-pub all_ask_rising : (ss : List Stream) (v w : ℕ) → v ≤ w → all_ask ss v ≤ all_ask ss w
-all_ask_rising [] v w le = omega arith
-all_ask_rising (s ∷ ss) v w le = omega (arith, asks_rising s v w le, all_ask_rising ss v w le)
+pub all_ask_monotone : (ss : List Stream) (v w : ℕ) → v ≤ w → all_ask ss v ≤ all_ask ss w
+all_ask_monotone [] v w le = omega arith
+all_ask_monotone (s ∷ ss) v w le = omega (arith, asks_monotone s v w le, all_ask_monotone ss v w le)
 
--- What a turn adds to the sum, and the streams that remain to be added.
-pub all_ask_turn : (ss : List Stream) (k w sum jobs : ℕ) → k < length ss
+-- The sum with stream k more, where it has so many jobs, and the streams that remain to be added.
+pub all_ask_more : (ss : List Stream) (k : ℕ) → k < length ss → (w sum jobs : ℕ)
     → jobs ≡ ceil (w - (get_or ss k no_stream).first) (get_or ss k no_stream).separation
     → sum + all_ask (drop k ss) w ≡ all_ask ss w
     → sum + ((get_or ss k no_stream).left + (get_or ss k no_stream).cost * jobs) + all_ask (drop (k + 1) ss) w ≡ all_ask ss w
-all_ask_turn ss k w sum jobs lt are so_far =
+all_ask_more ss k inside w sum jobs counts so_far =
     let more : all_ask (drop k ss) w ≡ asks (get_or ss k no_stream) w + all_ask (drop (k + 1) ss) w =
-    at_drop_more (λ rest. all_ask rest w) ss k no_stream lt in
-    rw are (omega arith)
+    at_drop_more (λ rest. all_ask rest w) ss k no_stream inside in
+    rw counts (omega arith)
 
 -- A stream's next job at w or later begins at x: not long after w, and the stream asks for the same until then.
 pub record NextJob (s : Stream) (w x : ℕ) : Type 0 where
@@ -84,7 +84,7 @@ pub record NextJob (s : Stream) (w x : ℕ) : Type 0 where
   pub near : x ≤ w + 8192
   pub same : asks s x ≡ asks s w
 
-next_job : (s : Stream) (w : ℕ) → Tame s → NextJob s w (s.first + ceil (w - s.first) s.separation * s.separation)
+next_job : (s : Stream) (w : ℕ) → Bounds s → NextJob s w (s.first + ceil (w - s.first) s.separation * s.separation)
 unfolding ceil
 next_job s w t =
     let jobs = ceil (w - s.first) s.separation in
@@ -97,10 +97,10 @@ next_job s w t =
       same = ap (λ n. s.left + s.cost * n) (ap (λ n. ceil n s.separation) since ∙ ceil_whole jobs s.separation t.apart);
     }
 
-pub next_at : (ss : List Stream) (k w jobs : ℕ) → all_tame ss ≡ true → k < length ss
+pub next_at : (ss : List Stream) (k : ℕ) → k < length ss → all_bounded ss ≡ true → (w jobs : ℕ)
     → jobs ≡ ceil (w - (get_or ss k no_stream).first) (get_or ss k no_stream).separation
     → NextJob (get_or ss k no_stream) w ((get_or ss k no_stream).first + jobs * (get_or ss k no_stream).separation)
-next_at ss k w jobs h lt are = rw are (next_job (get_or ss k no_stream) w (tame_at ss k h lt))
+next_at ss k inside bounded w jobs counts = rw counts (next_job (get_or ss k no_stream) w (bounds_at ss k bounded inside))
 
 -- One stream more of the sum over the first ones.
 all_ask_append : (ss ts : List Stream) (w : ℕ) → all_ask (ss ++ ts) w ≡ all_ask ss w + all_ask ts w
@@ -116,16 +116,18 @@ all_ask_take ss k w lt =
 
 -- What asks for no more at a later time asks for the same until then.
 still_until : (f : ℕ → ℕ) → ((v w : ℕ) → v ≤ w → f v ≤ f w) → (v x y : ℕ) → v ≤ x → x ≤ y → f y ≡ f v → f x ≡ f v
-still_until f rising v x y low high same = omega (arith, rising v x low, rising x y high)
+still_until f monotone v x y low high same = omega (arith, monotone v x low, monotone x y high)
 
--- What a turn adds to the streams that stay quiet until `least`.
-pub quiet_turn : (ss : List Stream) (k ticks until next least : ℕ) → k < length ss
-    → ticks ≤ until → NextJob (get_or ss k no_stream) ticks next → least ≡ min until next
+-- One stream more: all of them stay quiet until the sooner of its next job and of how far the others stay so.
+pub quiet_more : (ss : List Stream) (k : ℕ) → k < length ss → (ticks until next : ℕ)
+    → ticks ≤ until
     → all_ask (take k ss) until ≡ all_ask (take k ss) ticks
-    → all_ask (take (k + 1) ss) least ≡ all_ask (take (k + 1) ss) ticks
-quiet_turn ss k ticks until next least lt low job is before =
+    → NextJob (get_or ss k no_stream) ticks next
+    → all_ask (take (k + 1) ss) (min until next) ≡ all_ask (take (k + 1) ss) ticks
+quiet_more ss k inside ticks until next low before job =
     let s = get_or ss k no_stream in
+    let least = min until next in
     let above : ticks ≤ least = omega (arith, job.ahead) in
-    let this = still_until (asks s) (asks_rising s) ticks least next above (omega arith) job.same in
-    let others = still_until (all_ask (take k ss)) (all_ask_rising (take k ss)) ticks least until above (omega arith) before in
-    omega (arith, this, others, all_ask_take ss k least lt, all_ask_take ss k ticks lt)
+    let this = still_until (asks s) (asks_monotone s) ticks least next above (omega arith) job.same in
+    let others = still_until (all_ask (take k ss)) (all_ask_monotone (take k ss)) ticks least until above (omega arith) before in
+    omega (arith, this, others, all_ask_take ss k least inside, all_ask_take ss k ticks inside)

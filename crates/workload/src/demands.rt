@@ -1,7 +1,7 @@
-// Idle ticks of a window, reckoned by stretches: longest runs of busy or of idle ticks.
+// Idle ticks of a window, counted by stretches: longest runs of busy or of idle ticks.
 ghost use Rattle.std.specs.Prelude.{◌≡◌, ◌≤◌, true, length};
 ghost use Rattle.model.specs.Idle.{idle_ticks};
-ghost use Rattle.workload.specs.Streams.{all_ask, all_tame};
+ghost use Rattle.workload.specs.Streams.{all_ask, all_bounded};
 
 use crate::streams::Stream;
 
@@ -9,7 +9,7 @@ use crate::streams::Stream;
 #[derive(Clone, Copy)]
 pub(crate) struct Demand<'a> {
     pub streams: &'a [Stream],
-    ghost tame: { all_tame streams.now ≡ true },
+    ghost bounded: { all_bounded streams.now ≡ true },
     ghost few: { length streams.now ≤ 16 },
 }
 

@@ -1,6 +1,6 @@
 use Rattle.std.proofs.Common.{◌≡◌, ◌+◌, drop}
 use Rattle.workload.specs.Streams.{all_ask}
-use Rattle.workload.proofs.stretches.Demand.within.Given as goal
+use Rattle.workload.proofs.demands.Demand.within.Given as goal
 
 -- The streams so far and those to come make the sum.
 abbrev pub invariant-loop-stream : goal.invariant-loop-stream

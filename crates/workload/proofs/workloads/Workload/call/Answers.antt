@@ -7,20 +7,18 @@ use Rattle.model.specs.declared.duties.Duty.{Duty}
 use Rattle.model.specs.declared.rows.Row.{Row}
 use Rattle.model.specs.declared.rows.RowCall.{RowCall}
 use Rattle.table.specs.Settings.{table_of}
-use Rattle.workload.proofs.Asked.{asked_called, asked_keeps, keeps_in}
-use Rattle.workload.specs.Slots.{acted, work_of}
+use Rattle.workload.proofs.RowCalls.{slot_call_keeps, slot_called, slots_after}
+use Rattle.workload.specs.Slots.{row_called, work_of}
 use Rattle.workload.specs.declared.workloads.Workload.{Workload}
-use Rattle.workload.proofs.workloads.Workload.ask.Goals as goal
+use Rattle.workload.proofs.workloads.Workload.call.Goals as goal
 
--- The rows that the call leaves, by the table's own duty.
-left : (w : Workload) (i : ℕ) (call : RowCall) (duties : List Duty) (duty : Duty) (row : Row)
-    → duties ≡ table_of w.setting
-    → duty ≡ duty_at duties i
-    → row ≡ acted duty w.clock (get_or w.rows i no_row) call
-    → set w.rows i row ≡ set w.rows i (acted (duty_at (table_of w.setting) i) w.clock (get_or w.rows i no_row) call)
-left w i call duties duty row same at leaves =
-    ap (set w.rows i)
-    (leaves ∙ ap (λ (d : Duty). acted d w.clock (get_or w.rows i no_row) call) (at ∙ ap (λ (table : List Duty). duty_at table i) same))
+-- The slots that the call leaves, by the table's own duty.
+left : (w : Workload) (i : ℕ) (inside : i < length (table_of w.setting)) (call : RowCall) (duty : Duty) (row : Row)
+    → duty ≡ duty_at (table_of w.setting) i
+    → row ≡ row_called duty w.clock (get_or w.rows i no_row) call
+    → set w.rows i row ≡ slots_after w i call inside
+left w i inside call duty row is leaves =
+    ap (set w.rows i) (leaves ∙ ap (λ (d : Duty). row_called d w.clock (get_or w.rows i no_row) call) is)
 
 pub invariant_of-self : goal.invariant_of-self
 invariant_of-self c =
@@ -28,9 +26,10 @@ invariant_of-self c =
     let table = table_of w.setting in
     let found = c.in-Some.ensures.lookup.3 in
     let inside : c.args.row < length table = omega (arith, found.0, ap length c.duties.ensures) in
+    let duty = found.1 _ ∙ ap (λ (duties : List Duty). duty_at duties c.args.row) c.duties.ensures in
     record {
-      keeps = ap (λ slots. kept (work_of table w.clock slots)) (left w c.args.row c.args.call _ _ _ c.duties.ensures (found.1 _) c.act.ensures.leaves)
-          ∙ (asked_keeps table w.clock w.rows c.args.row c.args.call (keeps_in w) inside).work_kept;
+      keeps = ap (λ slots. kept (work_of table w.clock slots)) (left w c.args.row inside c.args.call _ _ duty c.apply.ensures.leaves)
+          ∙ (slot_call_keeps w c.args.row c.args.call inside).work_kept;
       unused = drop-set-lt (length table) w.rows c.args.row _ inside ∙ w.unused;
     }
 
@@ -39,12 +38,13 @@ returns c =
     let w = c.args.self.now in
     let found = c.in-Some.ensures.lookup.3 in
     let inside : c.args.row < length (table_of w.setting) = omega (arith, found.0, ap length c.duties.ensures) in
+    let duty = found.1 _ ∙ ap (λ (duties : List Duty). duty_at duties c.args.row) c.duties.ensures in
     let (called, stays) =
-    asked_called w _ c.args.row c.args.call c.act.result
+    slot_called w _ c.args.row c.args.call c.apply.result
     (record {
       inside = inside;
-      answers = c.act.ensures.answers;
-      left = left w c.args.row c.args.call _ _ _ c.duties.ensures (found.1 _) c.act.ensures.leaves;
+      answers = c.apply.ensures.answers;
+      left = left w c.args.row inside c.args.call _ _ duty c.apply.ensures.leaves;
       setting = refl;
       clock = refl;
     }) in

@@ -11,11 +11,11 @@ use Rattle.model.specs.Slack.{row_slack, window_end}
 use Rattle.model.specs.Table.{duty_at}
 use Rattle.model.specs.declared.duties.Duty.{Duty}
 use Rattle.model.specs.declared.rows.Row.{Row}
-use Rattle.workload.proofs.Ahead.{RowAhead, all_ask_is_demand, row_ahead, streams_at, streams_length, streams_tame}
-use Rattle.workload.proofs.Asked.{keeps_in}
+use Rattle.workload.proofs.Ahead.{RowAhead, all_ask_is_demand, row_ahead, streams_at, streams_length, streams_bounded}
+use Rattle.workload.proofs.RowCalls.{keeps_in}
 use Rattle.workload.proofs.Minimum.{least_of, least_of_more}
-use Rattle.workload.proofs.Tame.{all_ask_rising, no_stream, tame_take}
-use Rattle.workload.specs.Streams.{all_ask, all_tame, stream_of, streams_of}
+use Rattle.workload.proofs.Bounds.{all_ask_monotone, no_stream, bounded_take}
+use Rattle.workload.specs.Streams.{all_ask, all_bounded, stream_of, streams_of}
 use Rattle.workload.specs.Workloads.{work_in}
 use Rattle.workload.specs.declared.streams.Stream.{Stream}
 use Rattle.workload.specs.declared.workloads.Workload.{Workload}
@@ -29,10 +29,10 @@ idle_alike f g same (suc n) =
     cc
 
 idle_at_most : (f : ℕ → ℕ) → Monotone f → (n : ℕ) → idle_ticks f n ≤ n
-idle_at_most f rising zero = omega arith
-idle_at_most f rising (suc n) =
-    let before = idle_at_most f rising n in
-    ⊎_elim (λ lt. omega (arith, idle_same f rising n lt)) (λ le. omega (arith, idle_more f rising n le)) (cases_lt n (f (suc n) + idle_ticks f n))
+idle_at_most f monotone zero = omega arith
+idle_at_most f monotone (suc n) =
+    let before = idle_at_most f monotone n in
+    ⊎_elim (λ lt. omega (arith, idle_same f monotone n lt)) (λ le. omega (arith, idle_more f monotone n le)) (cases_lt n (f (suc n) + idle_ticks f n))
 
 module _ (w : Workload) where
   abbrev work : Work
@@ -51,9 +51,9 @@ module _ (w : Workload) where
   ahead : (i : ℕ) → i < length work.table → RowAhead work.clock (duty_at work.table i) (row_at work.rows i)
   ahead = row_ahead work (keeps_in w)
 
-  pub first_tame : (n : ℕ) → all_tame (first_streams n) ≡ true
-  first_tame n =
-      tame_take n (streams_of work.clock work.table work.rows) (streams_tame work.clock work.table work.rows same ahead)
+  pub first_bounded : (n : ℕ) → all_bounded (first_streams n) ≡ true
+  first_bounded n =
+      bounded_take n (streams_of work.clock work.table work.rows) (streams_bounded work.clock work.table work.rows same ahead)
 
   module _ (i : ℕ) (lt : i < length work.table) where
     -- One stream more.
@@ -77,21 +77,25 @@ module _ (w : Workload) where
         window_at
         ∙ sym (slack_is_idle_ticks (work.clock + 1) work.clock work.table work.rows i))
 
-    -- A turn over row i, with its duty and its state.
+    -- Row i with its duty and its state, as the loop comes to it.
     module _ (duty : Duty) (row : Row) (this : duty ≡ duty_at work.table i) (that : row ≡ row_at work.rows i) where
-      pub turn_ahead : RowAhead work.clock duty row
-      turn_ahead = rw (this, that) (ahead i lt)
+      pub this_ahead : RowAhead work.clock duty row
+      this_ahead = rw (this, that) (ahead i lt)
 
-      pub turn_streams : (before after : List Stream) (stream : Stream)
+      pub streams_more : (before after : List Stream) (stream : Stream)
           → before ≡ first_streams i → stream ≡ stream_of work.clock duty row → after ≡ before ++ stream ∷ [] → after ≡ first_streams (i + 1)
-      turn_streams before after stream so_far is pushed = cc stream_more
+      streams_more before after stream so_far is pushed = cc stream_more
 
-      pub turn_slack : (streams : List Stream) (window idle least : ℕ)
-          → streams ≡ first_streams (i + 1)
-          → window ≡ window_end (work.clock + 1) duty row - work.clock → window ≤ 8192
-          → idle ≡ idle_ticks (all_ask streams) window
+      -- What the loop has of row i: the streams up to it, its window, and their idle ticks in the window.
+      pub record RowIdle (streams : List Stream) (window idle : ℕ) : Type 0 where
+        pub are : streams ≡ first_streams (i + 1)
+        pub ends : window ≡ window_end (work.clock + 1) duty row - work.clock
+        pub short : window ≤ 8192
+        pub counts : idle ≡ idle_ticks (all_ask streams) window
+
+      pub slack_more : (streams : List Stream) (window idle least : ℕ) → RowIdle streams window idle
           → least ≡ least_of slacks i → min least idle ≡ least_of slacks (i + 1)
-      turn_slack streams window idle least are ends short is so_far =
-          let few = idle_at_most (all_ask streams) (all_ask_rising streams) window in
-          let slack : idle ≡ slacks i = cc idle_is_slack in
-          rw so_far (ap (min (least_of slacks i)) slack ∙ least_of_more slacks i (omega (arith, few, slack, is)))
+      slack_more streams window idle least of-row so_far =
+          let few = idle_at_most (all_ask streams) (all_ask_monotone streams) window in
+          let slack : idle ≡ slacks i = cc (of-row.are, of-row.ends, of-row.counts, idle_is_slack) in
+          rw so_far (ap (min (least_of slacks i)) slack ∙ least_of_more slacks i (omega (arith, few, slack, of-row.counts, of-row.short)))

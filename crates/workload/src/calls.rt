@@ -2,7 +2,7 @@
 ghost use Rattle.std.specs.Prelude.{◌≡◌};
 ghost use Rattle.model.specs.Machine.{released, row_refusal};
 ghost use Rattle.model.specs.Refusals.{refusal};
-ghost use Rattle.workload.specs.Slots.{acted};
+ghost use Rattle.workload.specs.Slots.{row_called};
 
 use model::{Duty, Refusal, Row, RowCall};
 
@@ -18,10 +18,10 @@ fn released(duty: Duty, clock: u32) -> Row
     }
 }
 
-// What a call does to a row goes by the row's state and the call together.
-pub(crate) fn act(row: &mut Row, call: RowCall, duty: Duty, clock: u32) -> Result<(), Refusal>
+// Applies a call to a row. What it does goes by the row's state and the call together.
+pub(crate) fn apply(row: &mut Row, call: RowCall, duty: Duty, clock: u32) -> Result<(), Refusal>
     ensures answers { refusal result ≡ row_refusal clock row.old call }
-    ensures leaves { row.new ≡ acted duty clock row.old call }
+    ensures leaves { row.new ≡ row_called duty clock row.old call }
 {
     let now = u64::from(clock);
     *row = match (*row, call) {

@@ -1,6 +1,6 @@
 use Rattle.std.proofs.Common.{◌≡◌, ◌≤◌, take}
 use Rattle.workload.specs.Streams.{all_ask}
-use Rattle.workload.proofs.stretches.Demand.quiet_until.Given as goal
+use Rattle.workload.proofs.demands.Demand.quiet_until.Given as goal
 
 -- The streams so far ask for the same until then.
 abbrev pub invariant-loop-stream : goal.invariant-loop-stream

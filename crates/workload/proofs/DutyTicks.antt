@@ -1,5 +1,5 @@
 -- A tick that goes to the duties: what it leaves of the work, before the clock moves on.
-use Rattle.std.proofs.Common.{◌≡◌, ℕ, ◌<◌, [], length, get_or, Some, None, Ok, Err, Result, sym, refl, ap, ◌∙◌, arith, subst}
+use Rattle.std.proofs.Common.{◌≡◌, ℕ, ◌<◌, [], length, get_or, Some, None, Ok, Err, Result, sym, ◌∙◌, arith, subst}
 use Rattle.model.proofs.Admitted.{admitted_says}
 use Rattle.model.proofs.Invariant.{kept_gives}
 use Rattle.model.proofs.RefusalCodes.{refusal_code_some}
@@ -11,7 +11,7 @@ use Rattle.model.specs.Machine.{RowCalled, Work, after_call, call_refusal, duty_
 use Rattle.model.specs.declared.refusals.Refusal.{Refusal}
 use Rattle.model.specs.declared.rows.RowCall.TheVariants.{Run}
 use Rattle.table.specs.Settings.{table_of}
-use Rattle.workload.proofs.Asked.{keeps_in, row_answers}
+use Rattle.workload.proofs.RowCalls.{keeps_in, row_answers}
 use Rattle.workload.specs.Workloads.{work_in}
 use Rattle.workload.specs.declared.workloads.Workload.{Workload}
 
@@ -36,10 +36,10 @@ module _ (w : Workload) where
     -- A ready row takes a tick,
     accepted : call_refusal (work_in w) i Run ≡ []
     accepted =
-        row_answers (table_of w.setting) w.clock w.rows i Run (keeps_in w) ready_inside
+        row_answers w i Run ready_inside
         ∙ run_accepted w.clock (get_or w.rows i no_row)
 
-    -- and has had it once it was asked to run.
+    -- and has had it once it was called to run.
     pub row_ran : {X : Type 0} (r : Result X Refusal) (then : Work) → RowCalled (work_in w) i Run r then → then ≡ duty_tick (work_in w)
     row_ran (Ok x) then (free, is) =
         let tick : duty_tick (work_in w) ≡ after_call (work_in w) i Run = rw (e, duty_tick) in

@@ -1,7 +1,7 @@
 use Rattle.std.proofs.Common.{◌≡◌, ◌-◌, ◌≤◌}
 use Rattle.model.specs.Idle.{idle_ticks}
 use Rattle.workload.specs.Streams.{all_ask}
-use Rattle.workload.proofs.stretches.Demand.idle_ticks.Given as goal
+use Rattle.workload.proofs.demands.Demand.idle_ticks.Given as goal
 
 -- The idle ticks so far are counted, and the window is not left.
 abbrev pub invariant-window : goal.invariant-window
