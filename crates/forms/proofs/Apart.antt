@@ -1,4 +1,4 @@
--- Nothing of a text is lost or made up when it is taken apart into lines, or a form into items.
+-- Taking a text apart into lines, or a form into items, loses nothing and adds nothing.
 use Rattle.std.proofs.Common.{◌≡◌, ℕ, suc, ◌+◌, false, not, ◌&&◌, eqb, List, [], ◌∷◌, length, sym, refl, ap, ◌∙◌, subst, inl, inr, ⊎_elim, arith}
 use Rattle.std.specs.List.{flat_map}
 use Rattle.std.proofs.lemmas.Bool.{and_from, and_parts, cases_Bool, eqb-true}
@@ -6,16 +6,16 @@ use Rattle.forms.specs.Forms.{space}
 use Rattle.forms.specs.Items.{item_begun_by, items, open_after}
 use Rattle.forms.specs.Laws.{Follow, LinesOf, TakenApart, spaced, with_end}
 use Rattle.forms.specs.Lines.{Line, begun_by, lines, next_byte, next_line}
-use Rattle.forms.specs.declared.faults.Place.{Place}
+use Rattle.forms.specs.declared.faults.Position.{Position}
 use Rattle.forms.proofs.Inside.{form_items}
 use Rattle.forms.proofs.Itemized.{items_split}
 
 -- One byte more at the front of the first line.
-begun_whole : (b : ℕ) (p : Place) (ls : List Line) → flat_map with_end (begun_by b p ls) ≡ b ∷ flat_map with_end ls
+begun_whole : (b : ℕ) (p : Position) (ls : List Line) → flat_map with_end (begun_by b p ls) ≡ b ∷ flat_map with_end ls
 begun_whole b p [] = refl
 begun_whole b p (l ∷ ls) = refl
 
-begun_follow : (b : ℕ) (p : Place) (ls : List Line) → eqb b 10 ≡ false → Follow (next_byte p) ls → Follow p (begun_by b p ls)
+begun_follow : (b : ℕ) (p : Position) (ls : List Line) → eqb b 10 ≡ false → Follow (next_byte p) ls → Follow p (begun_by b p ls)
 begun_follow b p [] plain follow = (refl, and_from _ _ (ap not plain) refl, inr refl, tt)
 begun_follow b p (l ∷ ls) plain follow =
     let same : p.byte + 1 + length l.bytes + 1 ≡ p.byte + suc (length l.bytes) + 1 = omega arith in (
@@ -25,7 +25,7 @@ begun_follow b p (l ∷ ls) plain follow =
       subst (λ (n : ℕ). Follow (record { line = p.line + 1; byte = n }) ls) same follow.3,
     )
 
-lines_of : (p : Place) (text : List ℕ) → LinesOf p text
+lines_of : (p : Position) (text : List ℕ) → LinesOf p text
 lines_of p [] = record { follow = tt; whole = refl }
 lines_of p (b ∷ bs) =
     ⊎_elim

@@ -1,4 +1,6 @@
--- A call's word and numbers between two brackets are a form.
+-- A call's word and numbers between two brackets are a form, so whether an item is a call can be found out without reading it as a form.
+-- Where an item stands in brackets and its items say a call, the grammar reads it as a form; where it does not, it is no form, since the
+-- last byte of a form closes its first bracket.
 use Rattle.std.proofs.Common.{◌≡◌, ℕ, zero, suc, ◌+◌, ◌-◌, Bool, true, false, cond, ◌&&◌, eqb, ltb, List, [], ◌∷◌, ◌++◌, length, take, drop, get_or, is_some, Some, None, Option, codes, sym, refl, ap, ◌∙◌, subst, ⊎_elim, arith}
 use Rattle.std.specs.Option.{option_map}
 use Rattle.std.specs.Str.{bytes_eq}
@@ -20,7 +22,7 @@ some_mapped : {X Y : Type 0} (f : X → Y) (o : Option X) → is_some (option_ma
 some_mapped f None e = e
 some_mapped f (Some x) e = refl
 
--- Where one of two has something, it is the first or the second.
+-- Where a choice of two has something, the one that was chosen has it.
 either : {X : Type 0} {P : Type 0} (t : Bool) (x y : Option X) → (t ≡ true → is_some x ≡ true → P) → (is_some y ≡ true → P)
     → is_some (cond t x y) ≡ true → P
 either true x y first second e = first refl e
@@ -90,7 +92,7 @@ call_reads (word ∷ is) e =
     (λ no. cc))))
     e
 
--- What says a call between two brackets is a form.
+-- Bytes whose items say a call are a form once they stand between two brackets.
 says_form : (bs : List ℕ) → is_some (call_of_items (items 0 bs)) ≡ true → formed (40 ∷ (bs ++ (41 ∷ []))) ≡ true
 says_form bs e =
     let r = call_reads (items 0 bs) e in
@@ -135,7 +137,7 @@ form_brackets (b ∷ bs) e =
 abbrev first : List ℕ → ℕ
 first bs = get_or bs 0 0
 
--- Two brackets, and what is inside.
+-- Bytes that begin and end with a bracket are the two brackets and what is inside.
 brackets_around : (bs : List ℕ) → in_brackets bs ≡ true → bs ≡ 40 ∷ (inside bs ++ (41 ∷ []))
 brackets_around [] e = cc
 brackets_around (b ∷ []) e =
@@ -161,7 +163,7 @@ none_or None true found = refl
 none_or None false found = refl
 none_or (Some x) t found = ap (λ u. cond u (Some x) None) (found refl)
 
--- What is in brackets and no form says no call, so the brackets are test enough.
+-- What stands in brackets and is no form says no call, so the brackets are all that has to be tested.
 pub call_by_brackets : (bs : List ℕ) → call bs ≡ cond (in_brackets bs) (call_of_items (items 0 (inside bs))) None
 call_by_brackets bs =
     let found = call_of_items (items 0 (inside bs)) in

@@ -4,32 +4,34 @@ use Rattle.std.proofs.lemmas.List.{drop_all, drop-drop, drop_more, take_all}
 use Rattle.std.proofs.lemmas.Bool.{cases_Bool, cases_lt}
 use Rattle.std.proofs.lemmas.Bool.Decides.{nat_tests}
 use Rattle.forms.specs.Lines.{Line, begun_by, line_length, lines, next_byte}
-use Rattle.forms.specs.declared.faults.Place.{Place}
+use Rattle.forms.specs.declared.faults.Position.{Position}
 use Rattle.forms.proofs.Firsts.{line_length_within}
 
--- The first line of a text, and the place of the next one.
-abbrev pub first_line : Place → List ℕ → Line
-first_line p bs = record { bytes = take (line_length bs) bs; place = p; ended = ltb (line_length bs) (length bs) }
+-- The first line of a text, and the position of the next one.
+abbrev pub first_line : Position → List ℕ → Line
+first_line p bs = record { bytes = take (line_length bs) bs; position = p; ended = ltb (line_length bs) (length bs) }
 
-abbrev pub second_place : Place → List ℕ → Place
-second_place p bs = record { line = p.line + 1; byte = p.byte + min (length bs) (suc (line_length bs)) }
+abbrev pub second_position : Position → List ℕ → Position
+second_position p bs = record { line = p.line + 1; byte = p.byte + min (length bs) (suc (line_length bs)) }
 
-same_split : (bytes rest : List ℕ) (p : Place) (e f : Bool) (l m n : ℕ) → e ≡ f → m ≡ n
-    → record { bytes = bytes; place = p; ended = e } ∷ lines (record { line = l; byte = m }) rest
-    ≡ record { bytes = bytes; place = p; ended = f } ∷ lines (record { line = l; byte = n }) rest
-same_split bytes rest p e f l m n same_end same_byte = cc
+-- A line of these bytes at a position, and the lines of the rest, which begins at byte n of the text.
+abbrev line_then : List ℕ → List ℕ → Position → Bool → ℕ → List Line
+line_then bytes rest p ended n = record { bytes = bytes; position = p; ended = ended } ∷ lines (record { line = p.line + 1; byte = n }) rest
 
-abbrev Split : Place → List ℕ → Type 0
-Split p bs = lines p bs ≡ first_line p bs ∷ lines (second_place p bs) (drop (suc (line_length bs)) bs)
+same_split : (bytes rest : List ℕ) (p : Position) {e f : Bool} {m n : ℕ} → e ≡ f → m ≡ n → line_then bytes rest p e m ≡ line_then bytes rest p f n
+same_split bytes rest p {f = f} {m = m} ends next = ap (λ (e : Bool). line_then bytes rest p e m) ends ∙ ap (line_then bytes rest p f) next
 
-split_at_end : (p : Place) (b : ℕ) (bs : List ℕ) → eqb b 10 ≡ true → Split p (b ∷ bs)
+abbrev Split : Position → List ℕ → Type 0
+Split p bs = lines p bs ≡ first_line p bs ∷ lines (second_position p bs) (drop (suc (line_length bs)) bs)
+
+split_at_end : (p : Position) (b : ℕ) (bs : List ℕ) → eqb b 10 ≡ true → Split p (b ∷ bs)
 split_at_end p b bs t =
     rw t
     (let ends : true ≡ ltb 0 (suc (length bs)) = grind (arith, nat_tests) in
     let next : p.byte + 1 ≡ p.byte + min (suc (length bs)) 1 = omega arith in
-    same_split [] bs p true (ltb 0 (suc (length bs))) (p.line + 1) (p.byte + 1) (p.byte + min (suc (length bs)) 1) ends next)
+    same_split [] bs p ends next)
 
-split_later : (p : Place) (b : ℕ) (bs : List ℕ) → eqb b 10 ≡ false → Split (next_byte p) bs → Split p (b ∷ bs)
+split_later : (p : Position) (b : ℕ) (bs : List ℕ) → eqb b 10 ≡ false → Split (next_byte p) bs → Split p (b ∷ bs)
 split_later p b bs f rest =
     rw f
     (let n = line_length bs in
@@ -37,11 +39,10 @@ split_later p b bs f rest =
     let ends : ltb n size ≡ ltb (suc n) (suc size) = grind (arith, nat_tests) in
     let next : p.byte + 1 + min size (suc n) ≡ p.byte + min (suc size) (suc (suc n)) = omega arith in
     ap (begun_by b p) rest
-    ∙ same_split (b ∷ take n bs) (drop (suc n) bs) p (ltb n size) (ltb (suc n) (suc size)) (p.line + 1)
-    (p.byte + 1 + min size (suc n)) (p.byte + min (suc size) (suc (suc n))) ends next)
+    ∙ same_split (b ∷ take n bs) (drop (suc n) bs) p ends next)
 
 -- A text is its first line and the lines behind that.
-pub lines_split : (p : Place) (b : ℕ) (bs : List ℕ) → Split p (b ∷ bs)
+pub lines_split : (p : Position) (b : ℕ) (bs : List ℕ) → Split p (b ∷ bs)
 lines_split p b [] = ⊎_elim (split_at_end p b []) (λ f. rw f) (cases_Bool (eqb b 10))
 lines_split p b (c ∷ cs) =
     ⊎_elim (split_at_end p b (c ∷ cs)) (λ f. split_later p b (c ∷ cs) f (lines_split (next_byte p) c cs)) (cases_Bool (eqb b 10))
@@ -56,12 +57,12 @@ behind text start n h =
     (λ le. drop_all (start + suc n) text (omega arith) ∙ sym (drop_all (min (length text) (start + n + 1)) text (omega arith)))
     (cases_lt (start + n) (length text))
 
--- The lines from a place in a text on: the one that begins there, of n bytes, and those behind it.
-pub lines_from : (text : List ℕ) (p : Place) (n next : ℕ)
+-- The lines from a position in a text on: the one that begins there, of n bytes, and those behind it.
+pub lines_from : (text : List ℕ) (p : Position) (n next : ℕ)
     → p.byte < length text
     → n ≡ line_length (take (length text - p.byte) (drop p.byte text)) → next ≡ min (length text) (p.byte + n + 1)
     → lines p (drop p.byte text)
-    ≡ record { bytes = take n (take (length text - p.byte) (drop p.byte text)); place = p; ended = ltb n (length (take (length text - p.byte) (drop p.byte text))) }
+    ≡ record { bytes = take n (take (length text - p.byte) (drop p.byte text)); position = p; ended = ltb n (length (take (length text - p.byte) (drop p.byte text))) }
     ∷ lines (record { line = p.line + 1; byte = next }) (drop next text)
 lines_from text p n next h e then =
     let rest = drop p.byte text in

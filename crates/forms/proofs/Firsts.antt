@@ -6,7 +6,7 @@ use Rattle.std.proofs.lemmas.Bool.Decides.{nat_tests}
 use Rattle.forms.specs.Faults.{Fault, fault}
 use Rattle.forms.specs.Lines.{allowed, bad_letter, line_length, next_byte}
 use Rattle.forms.specs.declared.faults.Layer.TheVariants.{Letters}
-use Rattle.forms.specs.declared.faults.Place.{Place}
+use Rattle.forms.specs.declared.faults.Position.{Position}
 
 one_more : {m n : ℕ} → m ≡ n → 1 + m ≡ suc n
 one_more e = omega (arith, e)
@@ -30,20 +30,20 @@ line_length_found bs =
     (cases_Bool (ltb (position_or_len (λ b. eqb b 10) bs) (length bs)))
 
 -- The fault at the first bad letter, if there is one.
-abbrev pub bad_at : Place → Option ℕ → Option Fault
+abbrev pub bad_at : Position → Option ℕ → Option Fault
 bad_at p None = None
 bad_at p (Some ahead) = Some (fault 12 Letters (record { line = p.line; byte = p.byte + ahead }))
 
 abbrev first_bad : List ℕ → ℕ
 first_bad bs = position_or_len (λ b. not (allowed b)) bs
 
-on_at : (p : Place) (t : Bool) (n : ℕ) → bad_at (next_byte p) (cond t (Some n) None) ≡ bad_at p (cond t (Some (1 + n)) None)
+on_at : (p : Position) (t : Bool) (n : ℕ) → bad_at (next_byte p) (cond t (Some n) None) ≡ bad_at p (cond t (Some (1 + n)) None)
 on_at p true n =
     let same : p.byte + 1 + n ≡ p.byte + (1 + n) = omega arith in
     ap (λ k. Some (fault 12 Letters (record { line = p.line; byte = k }))) same
 on_at p false n = refl
 
-pub bad_letter_found : (p : Place) (bs : List ℕ) → bad_letter p bs ≡ bad_at p (position (λ b. not (allowed b)) bs)
+pub bad_letter_found : (p : Position) (bs : List ℕ) → bad_letter p bs ≡ bad_at p (position (λ b. not (allowed b)) bs)
 bad_letter_found p [] = refl
 bad_letter_found p (b ∷ bs) =
     ⊎_elim

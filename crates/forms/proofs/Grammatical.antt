@@ -1,4 +1,7 @@
--- A line is a form by the grammar exactly if its brackets pair up and its bytes may stand one after the other.
+-- A line is a form by the grammar exactly if its brackets pair up and its bytes may stand one after the other. One way goes by induction
+-- over what the grammar reads: behind it, the bytes to come are judged as if it were not there. The other way goes by induction over the
+-- bytes, from the last to the first: bytes that may stand so and that close d brackets are d levels of items, each with a closing bracket
+-- behind it, and one byte more in front of them continues an item, begins one, or opens or closes a level.
 use Rattle.std.proofs.Common.{◌≡◌, ℕ, zero, suc, ◌+◌, ◌-◌, ◌<◌, ◌≤◌, Bool, true, ◌&&◌, ◌||◌, ltb, List, [], ◌∷◌, ◌++◌, sym, refl, ap, ◌∙◌, subst, ⊎_elim, arith}
 use Rattle.std.proofs.lemmas.List.{append_assoc}
 use Rattle.std.proofs.lemmas.Bool.{and_from, and_parts, cond-true, eqb-true, ltb-true, or_cases}
@@ -29,7 +32,7 @@ end_before_space a e = grind (arith, nat_tests)
 end_before_closing : (a : ℕ) → ends a ≡ true → may_follow a 41 ≡ true
 end_before_closing a e = grind (arith, nat_tests)
 
--- From here on the bytes are spelled or not, whatever ended the item before them.
+-- Whether these bytes are spelled does not depend on the byte that ended the item before them.
 abbrev SpelledOn : List ℕ → Bool → Type 0
 SpelledOn bs v = (a : ℕ) → ends a ≡ true → spelled a bs ≡ v
 
@@ -134,7 +137,7 @@ form_passes (nested reads) is_form fits = cc
 form_passes none is_form fits = cc
 form_passes (more i inner first later) is_form fits = cc
 
--- The other way: what is left of a line that closes d brackets, each behind items.
+-- The other way. The rest of a line that closes d brackets: d times some items and a closing bracket.
 data Tail : ℕ → List ℕ → Type 0 where
   done : Tail zero []
   level : {d : ℕ} (inner rest : List ℕ) → Reads items (15 - d) inner → Tail d rest → Tail (suc d) (inner ++ (41 ∷ rest))
@@ -170,7 +173,7 @@ record WordThen (d : ℕ) (bs : List ℕ) : Type 0 where
   all : all_of letter others ≡ true
   tail : Tail (suc d) left
 
--- What bytes that are spelled and closed are, by the byte before them.
+-- What bytes are that are spelled and close d brackets, for each kind of byte that may stand before them.
 record GoesOn (d : ℕ) (bs : List ℕ) : Type 0 where
   after_letter : (a : ℕ) → letter a ≡ true → spelled a bs ≡ true → Run letter d bs
   after_digit : (a : ℕ) → digit a ≡ true → spelled a bs ≡ true → Run digit d bs
@@ -197,7 +200,7 @@ empty_none : (bs : List ℕ) → empty bs ≡ true → bs ≡ []
 empty_none [] e = refl
 empty_none (b ∷ bs) e = cc
 
--- The bytes behind go on, at any depth at which they close.
+-- This holds of the bytes behind, for any number of brackets that they close.
 abbrev Next : List ℕ → Type 0
 Next bs = (e : ℕ) → e < 16 → closed (suc e) bs ≡ true → GoesOn e bs
 

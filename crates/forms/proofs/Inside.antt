@@ -1,4 +1,5 @@
--- The items of a form are its word and the items that the grammar reads: only the spaces outside all inner brackets part them.
+-- The items of a form are its word and the items that the grammar reads. By induction over what the grammar reads: an item stays in one
+-- piece, since each space in it stands inside a bracket, and the spaces between items stand outside all inner brackets.
 use Rattle.std.proofs.Common.{◌≡◌, ℕ, suc, ◌+◌, ◌-◌, ◌≤◌, true, List, [], ◌∷◌, ◌++◌, length, take, drop, sym, refl, ap, ◌∙◌, arith, length-append}
 use Rattle.std.specs.List.{AllByRecursion}
 use Rattle.std.proofs.lemmas.List.{append_assoc, append-nil, take_at}
@@ -99,7 +100,7 @@ stays (more i inner first later) = λ depth rest some.
     ∙ begun_twice i inner (items depth rest))
     ∙ one_begun 32 (i ++ inner) (items depth rest)
 
--- Outside all brackets the spaces part items.
+-- Spaces outside all brackets stand between two items.
 record Parted (n : ℕ) (bs : List ℕ) : Type 0 where
   others : List (List ℕ)
   whole : items 0 bs ≡ [] ∷ others

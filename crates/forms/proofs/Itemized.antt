@@ -4,9 +4,9 @@ use Rattle.std.specs.List.{list_all}
 use Rattle.std.proofs.lemmas.Bool.{cases_Bool}
 use Rattle.std.proofs.lemmas.Bool.Decides.{nat_tests}
 use Rattle.forms.specs.Forms.{space}
-use Rattle.forms.specs.Items.{FromByte, Item, bytes_of, further, item_begun_by, item_length, items, open_after, parts_of, placed}
+use Rattle.forms.specs.Items.{FromByte, Item, bytes_of, further, item_begun_by, item_length, items, open_after, parts_of, laid_out}
 use Rattle.forms.specs.Sayings.{all_calls, call}
-use Rattle.forms.specs.declared.faults.Place.{Place}
+use Rattle.forms.specs.declared.faults.Position.{Position}
 use Rattle.forms.specs.declared.lines.Part.{Part}
 
 -- What is left behind the first n bytes and the space after them.
@@ -36,27 +36,27 @@ items_split depth (b ∷ bs) =
     ⊎_elim (split_here depth b bs) (λ f. split_later depth b bs f (items_split (open_after depth b) bs)) (cases_Bool (space b && eqb depth 0))
 
 -- What is left behind the first n bytes of a part, where its first item was cut off at n.
-behind_is : (p : Part) (n : ℕ) (r : Option Part) → FromByte p (n + 1) r → parts_of r ≡ placed (further p.place (n + 1)) (left_behind n p.bytes.now)
+behind_is : (p : Part) (n : ℕ) (r : Option Part) → FromByte p (n + 1) r → parts_of r ≡ laid_out (further p.position (n + 1)) (left_behind n p.bytes.now)
 behind_is p n None short =
     let past : ltb n (length p.bytes.now) ≡ false = grind (arith, nat_tests) in
     rw past
-behind_is p n (Some q) (long, bytes, place) =
+behind_is p n (Some q) (long, bytes, position) =
     let within : ltb n (length p.bytes.now) ≡ true = grind (arith, nat_tests) in
-    rw (within, bytes, place, add-one n)
+    rw (within, bytes, position, add-one n)
 
 pub items_cut : (p : Part) (n : ℕ) (later : Option Part)
     → n ≡ item_length 0 p.bytes.now → n ≤ length p.bytes.now → FromByte p (n + 1) later
-    → placed p.place (items 0 p.bytes.now) ≡ record { bytes = take n p.bytes.now; place = p.place } ∷ parts_of later
+    → laid_out p.position (items 0 p.bytes.now) ≡ record { bytes = take n p.bytes.now; position = p.position } ∷ parts_of later
 items_cut p n later ends within got =
     let bs = p.bytes.now in
     let size : length (take n bs) ≡ n = omega (arith, length-take n bs) in
-    ap (placed p.place) (items_split 0 bs) ∙ rw (sym ends)
-    (rw size (ap (λ is. record { bytes = take n bs; place = p.place } ∷ is) (sym (behind_is p n later got))))
+    ap (laid_out p.position) (items_split 0 bs) ∙ rw (sym ends)
+    (rw size (ap (λ is. record { bytes = take n bs; position = p.position } ∷ is) (sym (behind_is p n later got))))
 
 -- The bytes of items that stand one behind the other.
-pub bytes_placed : (p : Place) (is : List (List ℕ)) → bytes_of (placed p is) ≡ is
-bytes_placed p [] = refl
-bytes_placed p (i ∷ is) = ap (λ js. i ∷ js) (bytes_placed (further p (length i + 1)) is)
+pub bytes_laid_out : (p : Position) (is : List (List ℕ)) → bytes_of (laid_out p is) ≡ is
+bytes_laid_out p [] = refl
+bytes_laid_out p (i ∷ is) = ap (λ js. i ∷ js) (bytes_laid_out (further p (length i + 1)) is)
 
 -- Every item is a call.
 pub all_called : (is : List Item) → list_all (λ i. is_some (call i.bytes)) is ≡ all_calls (bytes_of is)

@@ -17,7 +17,7 @@ items_within bs =
     let apart = ap length (taken_apart.by_items 0 (inside bs)) in
     omega (arith, spaced_long (items 0 (inside bs)), apart, length-drop 1 (take (length bs - 1) bs), length-take (length bs - 1) bs)
 
--- The bytes of a line, and what is made of the lines behind it.
+-- The bytes of a line and those of the lines behind it are no more than the bytes of all these lines.
 pub line_within : (l : Line) (ls : List Line) → length l.bytes + length (flat_map with_end ls) ≤ length (flat_map with_end (l ∷ ls))
 line_within l ls =
     omega (arith, length-append (with_end l) (flat_map with_end ls), length-append l.bytes (cond l.ended (10 ∷ []) []))

@@ -26,7 +26,7 @@ value_by_fold v (b ∷ bs) =
     let same : with_digit v b ≡ min (v * 10 + (b - 48)) largest = omega arith in
     value_by_fold (with_digit v b) bs ∙ ap (λ n. value_after n bs) same
 
--- With k of n values read, the values to come stand behind them.
+-- With k of n values read, these and the values of the items left are all of the values.
 abbrev pub Ahead : ℕ → ℕ → List ℕ → List (List ℕ) → Option (List ℕ) → Type 0
 Ahead n k values left all = option_map (λ (vs : List ℕ). take k values ++ vs) (numbers (n - k) left) ≡ all
 

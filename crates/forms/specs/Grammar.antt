@@ -1,5 +1,6 @@
 -- What a form is, as a grammar: an opening bracket, a word, items with one space before each, and a closing bracket; an
--- item is a number, a word or a form. The law says that a line's bytes and brackets tell exactly this.
+-- item is a number, a word or a form. The law says that a line is such a form exactly if its
+-- brackets pair up and each of its bytes may stand after the one before it.
 use Rattle.std.specs.Prelude.{◌≡◌, ℕ, ◌<◌, Bool, true, ◌&&◌, List, [], ◌∷◌, ◌++◌, Decides}
 use Rattle.forms.specs.Forms.{bracketed, digit, letter, spelled_out}
 

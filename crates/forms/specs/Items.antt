@@ -1,7 +1,7 @@
 -- The items of a form, and the numbers among them.
 use Rattle.std.specs.Prelude.{◌≡◌, ◌<◌, ◌≤◌, map, ℕ, zero, suc, ◌+◌, ◌-◌, ◌*◌, min, Bool, true, cond, not, ◌&&◌, List, [], ◌∷◌, length, take, drop, Some, None, Option, ◌==◌, nat_le, nat_lt}
 use Rattle.std.specs.Option.{option_map}
-use Rattle.forms.specs.declared.faults.Place.{Place}
+use Rattle.forms.specs.declared.faults.Position.{Position}
 use Rattle.forms.specs.declared.items.Items.{Items}
 use Rattle.forms.specs.declared.lines.Part.{Part}
 use Rattle.forms.specs.Forms.{closing, digit, empty, opening, space}
@@ -20,51 +20,51 @@ abbrev pub item_begun_by : ℕ → List (List ℕ) → List (List ℕ)
 item_begun_by b [] = (b ∷ []) ∷ []
 item_begun_by b (i ∷ is) = (b ∷ i) ∷ is
 
--- The items: the parts between the spaces that stand outside every bracket. So many brackets are open.
+-- The items of bytes before which so many brackets are open: the parts between the spaces that stand outside every bracket.
 abbrev pub items : ℕ → List ℕ → List (List ℕ)
 items depth [] = [] ∷ []
 items depth (b ∷ bs) =
     cond (space b && depth == 0) ([] ∷ items 0 bs) (item_begun_by b (items (open_after depth b) bs))
 
--- The length of the first item.
+-- The length of the first item, where so many brackets are open before it.
 abbrev pub item_length : ℕ → List ℕ → ℕ
 item_length depth [] = 0
 item_length depth (b ∷ bs) = cond (space b && depth == 0) 0 (suc (item_length (open_after depth b) bs))
 
--- An item: its bytes, and the place of the first of them.
+-- An item: its bytes, and the position of the first of them.
 pub record Item : Type 0 where
   pub bytes : List ℕ
-  pub place : Place
+  pub position : Position
 
 -- The item that a part of a text stands for.
 abbrev pub item_of : Part → Item
-item_of p = record { bytes = p.bytes.now; place = p.place }
+item_of p = record { bytes = p.bytes.now; position = p.position }
 
 -- So many bytes further in the same line.
-abbrev pub further : Place → ℕ → Place
+abbrev pub further : Position → ℕ → Position
 further p n = record { line = p.line; byte = p.byte + n }
 
--- Items one behind the other, with a space between any two, the first one at a place.
-abbrev pub placed : Place → List (List ℕ) → List Item
-placed p [] = []
-placed p (i ∷ is) = record { bytes = i; place = p } ∷ placed (further p (length i + 1)) is
+-- Items one behind the other, with a space between any two, the first one at a position.
+abbrev pub laid_out : Position → List (List ℕ) → List Item
+laid_out p [] = []
+laid_out p (i ∷ is) = record { bytes = i; position = p } ∷ laid_out (further p (length i + 1)) is
 
 -- The bytes of items alone.
 abbrev pub bytes_of : List Item → List (List ℕ)
 bytes_of = map (λ i. i.bytes)
 
--- Where the inside of a form begins. What is shorter than two bytes has none.
-abbrev pub inside_place : Place → List ℕ → Place
-inside_place p bs = cond (nat_le 2 (length bs)) (further p 1) p
+-- Where the inside of a form begins. What is shorter than two bytes has none, and its own position is given.
+abbrev pub inside_position : Position → List ℕ → Position
+inside_position p bs = cond (nat_le 2 (length bs)) (further p 1) p
 
--- The items of a form that stands at a place.
-abbrev pub form_items : Place → List ℕ → List Item
-form_items p bs = placed (inside_place p bs) (items 0 (inside bs))
+-- The items of a form that stands at a position.
+abbrev pub form_items : Position → List ℕ → List Item
+form_items p bs = laid_out (inside_position p bs) (items 0 (inside bs))
 
 -- The items that are still to be handed out: none, or those of what stands behind the last one and its space.
 abbrev pub parts_of : Option Part → List Item
 parts_of None = []
-parts_of (Some part) = placed part.place (items 0 part.bytes.now)
+parts_of (Some part) = laid_out part.position (items 0 part.bytes.now)
 
 abbrev pub parts_left : Items → List Item
 parts_left r = parts_of r.rest
@@ -75,7 +75,7 @@ items_left r = bytes_of (parts_left r)
 -- A part from one of its bytes on.
 abbrev pub FromByte : Part → ℕ → Option Part → Type 0
 FromByte p n None = length p.bytes.now < n
-FromByte p n (Some q) = (n ≤ length p.bytes.now) × (q.bytes.now ≡ drop n p.bytes.now) × (q.place ≡ further p.place n)
+FromByte p n (Some q) = (n ≤ length p.bytes.now) × (q.bytes.now ≡ drop n p.bytes.now) × (q.position ≡ further p.position n)
 
 -- A number: one digit or more, and nothing else.
 abbrev pub is_number : List ℕ → Bool
@@ -109,6 +109,5 @@ numbers_fit bs = runs_fit 0 0 bs
 -- The values of items that are exactly n numbers.
 abbrev pub numbers : ℕ → List (List ℕ) → Option (List ℕ)
 numbers zero [] = Some []
-numbers zero (i ∷ is) = None
-numbers (suc n) [] = None
 numbers (suc n) (i ∷ is) = cond (is_number i) (option_map (λ vs. value i ∷ vs) (numbers n is)) None
+numbers n is = None

@@ -1,4 +1,4 @@
--- What a line says: its word decides which items it wants. The faults of the layers letters and forms.
+-- What a line says, where its word decides which items it wants; and the faults of the layers letters and forms.
 use Rattle.std.specs.Prelude.{ℕ, Bool, true, false, cond, ◌&&◌, ◌||◌, List, [], ◌∷◌, ◌++◌, is_some, Some, None, codes, Option, Result, ◌==◌, nat_le, slice_index}
 use Rattle.std.specs.Option.{option_map, unwrap_or}
 use Rattle.std.specs.Str.{bytes_eq}
@@ -13,7 +13,7 @@ use Rattle.forms.specs.declared.sayings.QueueName.TheVariants.{First, Worth}
 use Rattle.forms.specs.declared.sayings.Said.{Said}
 use Rattle.forms.specs.declared.sayings.Said.TheVariants.{Sheet, Duty as AddDuty, Queue, At, End, Remark}
 
--- The calls of an at-line: word, items, meaning.
+-- The call that a word and the items behind it are, if the word is known and the items are the numbers that it wants.
 abbrev pub worded_call : List ℕ → List (List ℕ) → Option Call
 worded_call word is =
     cond (bytes_eq word (codes "release")) (option_map (λ vs. Release (slice_index vs 0)) (numbers 1 is))
@@ -27,15 +27,16 @@ abbrev pub call_of_items : List (List ℕ) → Option Call
 call_of_items [] = None
 call_of_items (word ∷ is) = worded_call word is
 
--- The call that an item is: of a form, what its word and its items say; what is no form is no call.
+-- The call that an item is: of a form, the one that its word and its items are; what is no form is no call.
 abbrev pub call : List ℕ → Option Call
 call item = cond (bracketed item && spelled_out item) (call_of_items (items 0 (inside item))) None
 
+-- Every item is a call.
 abbrev pub all_calls : List (List ℕ) → Bool
 all_calls [] = true
 all_calls (i ∷ is) = is_some (call i) && all_calls is
 
--- One call or more.
+-- One call or more, and nothing else.
 abbrev pub some_calls : List (List ℕ) → Bool
 some_calls [] = false
 some_calls (i ∷ is) = is_some (call i) && all_calls is
@@ -54,11 +55,10 @@ duty_said vs = AddDuty (slice_index vs 0) (record { cost = slice_index vs 1; dea
 
 -- `(queue first)`, `(queue worth)`
 abbrev pub queue_said : List (List ℕ) → Option Said
-queue_said [] = None
 queue_said (name ∷ []) =
     cond (bytes_eq name (codes "first")) (Some (Queue First))
     (cond (bytes_eq name (codes "worth")) (Some (Queue Worth)) None)
-queue_said (name ∷ i ∷ is) = None
+queue_said is = None
 
 -- `(at CLOCK CALL ..)`
 abbrev pub at_said : List (List ℕ) → Option Said
@@ -69,7 +69,7 @@ at_said (clock ∷ is) = cond (is_number clock && some_calls is) (Some (At (valu
 abbrev pub end_said : List ℕ → Said
 end_said vs = End (slice_index vs 0)
 
--- What each word of a line wants.
+-- What a line of this word says, if the word is known and the items behind it are what it wants.
 abbrev pub worded : List ℕ → List (List ℕ) → Option Said
 worded word is =
     cond (bytes_eq word (codes "sheet")) (sheet_of_numbers (numbers 1 is))
@@ -91,28 +91,24 @@ said bs = cond (is_remark bs) (Some Remark) (said_by_items (items 0 (inside bs))
 abbrev pub says : Line → Said
 says l = unwrap_or (said l.bytes) Remark
 
--- The end is at most 10,000.
+-- A run has at most 10,000 ticks.
 abbrev pub end_fits : Said → Bool
-end_fits Sheet = true
-end_fits (AddDuty place d) = true
-end_fits (Queue name) = true
-end_fits (At clock) = true
 end_fits (End ticks) = nat_le ticks 10000
-end_fits Remark = true
+end_fits said = true
 
 -- The faults of a line's letters and of its form.
 abbrev pub fault_12 : Line → Option Fault
-fault_12 l = bad_letter l.place l.bytes
+fault_12 l = bad_letter l.position l.bytes
 
 abbrev pub fault_13 : Line → Option Fault
-fault_13 l = unless (l.ended && is_form l.bytes) (fault 13 Forms l.place)
+fault_13 l = unless (l.ended && is_form l.bytes) (fault 13 Forms l.position)
 
 abbrev pub fault_14 : Line → Option Fault
-fault_14 l = unless (is_some (said l.bytes)) (fault 14 Forms l.place)
+fault_14 l = unless (is_some (said l.bytes)) (fault 14 Forms l.position)
 
 abbrev pub fault_15 : Line → Option Fault
 fault_15 l =
-    unless (is_remark l.bytes || (numbers_fit l.bytes && end_fits (says l))) (fault 15 Forms l.place)
+    unless (is_remark l.bytes || (numbers_fit l.bytes && end_fits (says l))) (fault 15 Forms l.position)
 
 -- Each layer's faults, in the order in which they count.
 abbrev pub letters_faults : Line → List (Option Fault)

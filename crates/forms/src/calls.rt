@@ -9,7 +9,7 @@ use crate::numbers::numbers;
 use crate::shapes::in_brackets;
 use model::{Call, Errand};
 
-// What each word of a call wants.
+// The call of a word, if the word is known and the items behind it are the numbers that it wants.
 fn worded_call(word: &[u8], items: Items) -> Option<Call>
     ensures { result ≡ worded_call word.now (items_left items.entry) }
 {
@@ -38,7 +38,8 @@ fn worded_call(word: &[u8], items: Items) -> Option<Call>
     }
 }
 
-// The call that an item is, if it is one. A word and numbers between two brackets are a form, so no other test is needed.
+/// The call that an item is, if it is one: `(release ROW)`, `(done ROW)`, `(request NUMBER UNITS WORTH)` or `(withdraw NUMBER)`.
+// A word and numbers between two brackets are always a form, so the brackets are the only test of the form that is needed.
 #[tactic(auto, using(crate::proofs::Called::call_by_brackets))]
 pub fn call(item: Part) -> Option<Call>
     ensures { result ≡ call item.entry.bytes.now }
@@ -51,13 +52,14 @@ pub fn call(item: Part) -> Option<Call>
     worded_call(word.bytes, items)
 }
 
+// Every item is a call.
 fn all_calls(mut items: Items) -> bool
     ensures { result ≡ all_calls (items_left items.entry) }
 {
     items.all(|item| call(item).is_some())
 }
 
-// One call or more.
+// The items are one call or more, and nothing else.
 pub fn some_calls(mut items: Items) -> bool
     ensures { result ≡ some_calls (items_left items.entry) }
 {

@@ -6,9 +6,10 @@ ghost use Rattle.forms.specs.Items.{form_items, inside, item_length, item_of, it
 
 use crate::lines::Part;
 
-// The items of a form, handed out one after the other as parts of the text: what is still to come, or nothing.
+/// An iterator over the items of a form: its word, and what stands behind it.
 #[derive(Clone, Copy)]
 pub struct Items<'a> {
+    // The part in which the next item begins. There is none once the last item is handed out.
     pub(crate) rest: Option<Part<'a>>,
 }
 
@@ -41,9 +42,10 @@ fn item_end(bytes: &[u8]) -> usize
 }
 
 impl<'a> Items<'a> {
-    // The items of a form.
+    /// The items of a form. Any other bytes are taken apart in the same way: what stands between the first and the last byte, at the spaces
+    /// outside all brackets.
     pub fn new(form: Part<'a>) -> Items<'a>
-        ensures parts { parts_left result ≡ form_items form.entry.place form.entry.bytes.now }
+        ensures parts { parts_left result ≡ form_items form.entry.position form.entry.bytes.now }
         ensures bytes { items_left result ≡ items 0 (inside form.entry.bytes.now) }
     {
         Items {
@@ -59,20 +61,20 @@ impl<'a> Iterator for Items<'a> {
 
     ghost remaining = { item_count parts_left };
 
-    // The next item, as a part of the text.
+    /// The next item, as a part of the text.
     fn next(&mut self) -> Option<Part<'a>> {
         let part = self.rest?;
         let end = item_end(part.bytes);
         self.rest = part.from(end + 1);
         Some(Part {
             bytes: &part.bytes[..end],
-            place: part.place,
+            position: part.position,
         })
     }
 }
 
-// Nothing of a text is lost or made up when it is taken apart into lines, or a form into items; and these are the form's word, then
-// words, numbers and forms.
+/// The law that taking apart loses nothing: the lines of a text, put together, are the text; the items of a form, with a space between
+/// any two, are what stands between its brackets; and they are the form's word, then words, numbers and forms.
 pub fn taken_apart()
     ensures { TakenApart }
 {}

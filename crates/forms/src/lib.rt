@@ -1,5 +1,5 @@
-// From the bytes of a text to its lines, and from a line to its form, its items and what it says; or the first fault of
-// the line's letters or of its form.
+// The lines of a text, the items of a line, and what a line says, or the first fault of its letters or of its form. A line is a form: a
+// word and items between two brackets, an item being a number, a word or a form.
 #![tactic(auto)]
 
 mod calls;
@@ -12,7 +12,7 @@ mod sayings;
 mod shapes;
 
 pub use calls::call;
-pub use faults::{FormsFault, Layer, LettersFault, Place, Report};
+pub use faults::{FormsFault, Layer, LettersFault, Position, Report};
 pub use items::{Items, taken_apart};
 pub use lines::{Line, Part, Reader};
 pub use numbers::numbers_by_value;

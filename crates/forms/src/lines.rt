@@ -1,50 +1,52 @@
-// Parts of a text, and its lines, handed out one after the other as parts of it.
+// Parts of a text, and its lines, which a reader hands out one after the other as parts of the text.
 ghost use Rattle.std.specs.Prelude.{◌+◌, ◌^◌, ◌<◌, ◌≤◌, length};
 
-use crate::faults::Place;
+use crate::faults::Position;
 
-// A part of a text, and where it begins: a line, or an item of a form.
+/// A part of a text: a line, or an item of a form.
 #[derive(Clone, Copy)]
 pub struct Part<'a> {
+    /// The bytes of the part.
     pub bytes: &'a [u8],
-    pub place: Place,
-    ghost fits: { place.byte + length bytes.now < 2 ^ 64 },
+    /// Where the first of them stands in the text.
+    pub position: Position,
+    ghost fits: { position.byte + length bytes.now < 2 ^ 64 },
 }
 
-// No bytes, and no place in a text.
+// No bytes, and a position that is in no text.
 impl Default for Part<'_> {
     ghost use Rattle.std.specs.Prelude.{◌≡◌, []};
 
-    ghost is_default = { λ part. (part.bytes.now ≡ []) × (part.place ≡ record { line = 0; byte = 0 }) };
+    ghost is_default = { λ part. (part.bytes.now ≡ []) × (part.position ≡ record { line = 0; byte = 0 }) };
 
     fn default() -> Self {
         Part {
             bytes: &[],
-            place: Place { line: 0, byte: 0 },
+            position: Position { line: 0, byte: 0 },
         }
     }
 }
 
 impl<'a> Part<'a> {
     ghost use Rattle.std.specs.Prelude.{◌≡◌};
-    ghost use Rattle.forms.specs.Items.{inside, inside_place, FromByte};
+    ghost use Rattle.forms.specs.Items.{inside, inside_position, FromByte};
 
     // What stands between a form's first and last byte.
     pub(crate) fn inside(self) -> Part<'a>
         ensures bytes { result.bytes.now ≡ inside self.entry.bytes.now }
-        ensures place { result.place ≡ inside_place self.entry.place self.entry.bytes.now }
+        ensures position { result.position ≡ inside_position self.entry.position self.entry.bytes.now }
     {
         match self.bytes {
             [_, inside @ .., _] => Part {
                 bytes: inside,
-                place: Place {
-                    byte: self.place.byte + 1,
-                    ..self.place
+                position: Position {
+                    byte: self.position.byte + 1,
+                    ..self.position
                 },
             },
             _ => Part {
                 bytes: &self.bytes[..0],
-                place: self.place,
+                position: self.position,
             },
         }
     }
@@ -54,34 +56,36 @@ impl<'a> Part<'a> {
         ensures { FromByte self.entry start result }
     {
         let bytes = self.bytes.get(start..)?;
-        let place = Place {
-            byte: self.place.byte + start,
-            ..self.place
+        let position = Position {
+            byte: self.position.byte + start,
+            ..self.position
         };
-        Some(Part { bytes, place })
+        Some(Part { bytes, position })
     }
 }
 
-// A line of a text, without the byte that ends it. `ended` says whether that byte is there, which only the last line may lack; no
-// other field depends on it.
+/// A line of a text.
 #[derive(Clone, Copy)]
 pub struct Line<'a> {
+    /// The line without the byte 10 that ends it.
     pub part: Part<'a>,
+    /// Whether that byte is there. Only the last line of a text may lack it.
     pub ended: bool,
 }
 
-// A reader over the bytes of a text: `place` is where its next line begins.
+/// An iterator over the lines of a text. A byte 10 ends a line, and at most the last line is not ended.
 #[derive(Drop)]
 pub struct Reader<'a> {
     pub(crate) text: &'a [u8],
-    pub(crate) place: Place,
-    ghost within: { place.byte ≤ length text.now },
-    ghost counts: { place.line ≤ place.byte + 1 },
+    // Where the next line begins.
+    pub(crate) position: Position,
+    ghost within: { position.byte ≤ length text.now },
+    ghost counts: { position.line ≤ position.byte + 1 },
 }
 
 impl<'a> Reader<'a> {
     ghost use Rattle.std.specs.Prelude.{◌≡◌, ◌≤◌, length};
-    ghost use Rattle.forms.specs.Lines.{first_place, line_length, lines, lines_left};
+    ghost use Rattle.forms.specs.Lines.{first_position, line_length, lines, lines_left};
 
     // How long the first line of these bytes is: up to the first byte 10, or all of them.
     fn line_length(bytes: &[u8]) -> usize
@@ -94,23 +98,23 @@ impl<'a> Reader<'a> {
             .unwrap_or(bytes.len())
     }
 
-    // A reader at the beginning of a text.
+    /// A reader at the beginning of a text, which may hold any bytes.
     pub fn new(text: &'a [u8]) -> Reader<'a>
-        ensures lines { lines_left result ≡ lines first_place text.now }
+        ensures lines { lines_left result ≡ lines first_position text.now }
         ensures text { result.text.now ≡ text.now }
-        ensures place { result.place ≡ first_place }
+        ensures position { result.position ≡ first_position }
     {
         Reader {
             text,
-            place: Place { line: 1, byte: 0 },
+            position: Position { line: 1, byte: 0 },
         }
     }
 
-    // Where the next line begins.
-    pub fn place(&self) -> Place
-        ensures { result ≡ self.now.place }
+    /// Where the next line begins. At the end of the text, its byte is the text's length.
+    pub fn position(&self) -> Position
+        ensures { result ≡ self.now.position }
     {
-        self.place
+        self.position
     }
 }
 
@@ -124,23 +128,23 @@ impl<'a> Iterator for Reader<'a> {
 
     ghost remaining = { item_count lines_left };
 
-    // The next line, as a part of the text.
+    /// The next line, as a part of the text.
     fn next(&mut self) -> Option<Line<'a>> {
         let text = self.text;
-        let place = self.place;
-        let start = place.byte;
+        let position = self.position;
+        let start = position.byte;
         if start >= text.len() {
             return None;
         }
         let rest = &text[start..];
         let length = Reader::line_length(rest);
         let ended = length < rest.len();
-        self.place = Place {
-            line: place.line + 1,
+        self.position = Position {
+            line: position.line + 1,
             byte: text.len().min(start + length + 1),
         };
         let bytes = &rest[..length];
-        let part = Part { bytes, place };
+        let part = Part { bytes, position };
         Some(Line { part, ended })
     }
 }

@@ -5,7 +5,7 @@ ghost use Rattle.forms.specs.Numbers.{NumbersByValue};
 
 use crate::items::Items;
 
-// The largest number that a sheet may hold.
+// The largest number that a sheet may hold: the largest `u32`.
 const LARGEST: u64 = 4294967295;
 
 // The most digits that it may be written with.
@@ -18,7 +18,7 @@ pub fn is_number(item: &[u8]) -> bool
     !item.is_empty() && item.iter().all(|b| b.is_ascii_digit())
 }
 
-// The value of digits, or the largest number where it is past that: a `u32` holds no larger one, and `parse` would fail there.
+// The value of digits, or the largest number where it is past that. A `u32` holds no larger one, and `parse` would fail there.
 pub fn value(item: &[u8]) -> u32
     ensures { result ≡ value item.now }
 {
@@ -29,8 +29,8 @@ pub fn value(item: &[u8]) -> u32
     })
 }
 
-// Every run of digits is a number of at most ten digits that is not past the largest. `parse` would want each run cut out first,
-// and take any number of zeros in front.
+// Every run of digits has at most ten digits and is not past the largest number. `parse` would want each run cut out first, and it takes
+// any number of zeros in front.
 pub fn numbers_fit(form: &[u8]) -> bool
     ensures { result ≡ numbers_fit form.now }
 {
@@ -66,7 +66,7 @@ pub fn numbers<const N: usize>(mut items: Items) -> Option<[u32; N]>
     items.next().is_none().then_some(values)
 }
 
-// Numbers count by value: one that is written in decimal digits is read as itself, with or without zeros in front.
+/// The law that numbers count by value: one that is written in decimal digits is read as itself, with or without zeros in front.
 pub fn numbers_by_value()
     ensures { NumbersByValue }
 {}

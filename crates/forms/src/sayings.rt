@@ -1,7 +1,7 @@
 // What a line says: its word decides which items it wants; or the first fault of its letters or of its form.
 ghost use Rattle.std.specs.Prelude.{◌≡◌};
 ghost use Rattle.std.specs.Option.{option_map};
-ghost use Rattle.forms.specs.Faults.{forms_told, reported};
+ghost use Rattle.forms.specs.Faults.{forms_report, reported};
 ghost use Rattle.forms.specs.Items.{items_left, numbers};
 ghost use Rattle.forms.specs.Lines.{line_of};
 ghost use Rattle.forms.specs.Sayings.{at_said, duty_said, end_fits, end_said, form_judged, queue_said, said, sheet_of_numbers, worded};
@@ -15,27 +15,33 @@ use crate::numbers::{is_number, numbers, numbers_fit, value};
 use crate::shapes::{is_form, is_remark};
 use model::Duty;
 
-// The queue in which errands wait.
+/// The queue in which errands wait.
 #[derive(Clone, Copy, PartialEq, Eq, Debug)]
 pub enum QueueName {
+    /// `first`: the errand that came first is the next to be worked on.
     First,
+    /// `worth`: the errand of the most worth for each unit is the next to be worked on.
     Worth,
 }
 
-// What a line says.
+/// What a line says.
 #[derive(Clone, Copy)]
 pub enum Said {
+    /// `(sheet 1)`: the text is a sheet of version 1.
     Sheet,
-    // A duty and its place.
+    /// `(duty PLACE COST DEADLINE SEPARATION)`: the place at which the duty is inserted in the table, and the duty.
     Duty(u32, Duty),
+    /// `(queue first)` or `(queue worth)`.
     Queue(QueueName),
-    // The clock; the calls stay in the text.
+    /// `(at CLOCK CALL ..)`: the clock. The calls stay in the text.
     At(u32),
-    // The number of ticks.
+    /// `(end TICKS)`: the number of ticks.
     End(u32),
+    /// `(remark ..)`: any text.
     Remark,
 }
 
+// Only version 1 is known.
 fn sheet_said(items: Items) -> Option<Said>
     ensures { result ≡ sheet_of_numbers (numbers 1 (items_left items.entry)) }
 {
@@ -82,7 +88,7 @@ fn end_said(items: Items) -> Option<Said>
     Some(Said::End(ticks))
 }
 
-// What each word of a line wants.
+// What a line of this word says, if the word is known and the items behind it are what it wants.
 fn worded(word: &[u8], items: Items) -> Option<Said>
     ensures { result ≡ worded word.now (items_left items.entry) }
 {
@@ -111,6 +117,7 @@ fn said_in(part: Part) -> Option<Said>
 // The most ticks that a run may have.
 const MOST_TICKS: u32 = 10000;
 
+// A run has no more ticks than it may have.
 fn end_fits(what: Said) -> bool
     ensures { result ≡ end_fits what }
 {
@@ -120,18 +127,19 @@ fn end_fits(what: Said) -> bool
     }
 }
 
+/// What a line says by itself, or its first fault: 12 for its letters; else 13, 14 or 15, the smallest that it has.
 pub fn form_said(line: Line) -> Result<Said, FormsFault>
-    ensures { reported forms_told result ≡ form_judged (line_of line.entry) }
+    ensures { reported forms_report result ≡ form_judged (line_of line.entry) }
 {
     letters(line)?;
     let form = line.part;
     if !line.ended || !is_form(form.bytes) {
-        return Err(FormsFault::NotAForm(form.place));
+        return Err(FormsFault::NotAForm(form.position));
     }
-    let said = said_in(form).ok_or(FormsFault::WrongItems(form.place))?;
+    let said = said_in(form).ok_or(FormsFault::WrongItems(form.position))?;
     if is_remark(form.bytes) || numbers_fit(form.bytes) && end_fits(said) {
         Ok(said)
     } else {
-        Err(FormsFault::TooLarge(form.place))
+        Err(FormsFault::TooLarge(form.position))
     }
 }

@@ -1,4 +1,4 @@
-// Which lines are forms: brackets that pair up, and bytes that may stand one after the other.
+// Which lines are forms: those whose brackets pair up, and whose bytes may stand one after the other.
 ghost use Rattle.std.specs.Prelude.{◌≡◌};
 ghost use Rattle.forms.specs.Grammar.{FormsByGrammar};
 ghost use Rattle.forms.specs.Forms.{bracketed, in_brackets, is_form, is_remark, may_follow, spelled_out};
@@ -63,8 +63,8 @@ pub fn is_remark(part: &[u8]) -> bool
     part.starts_with(b"(remark ") || part.starts_with(b"(remark)")
 }
 
-// A line whose brackets pair up and whose bytes may stand one after the other is a form, and no other line is: the law
-// that the definition of a form rests on.
+/// The law that the definition of a form rests on: a line is a form by the grammar exactly if its brackets pair up and each of its bytes
+/// may stand after the one before it.
 pub fn forms_by_grammar()
     ensures { FormsByGrammar }
 {}

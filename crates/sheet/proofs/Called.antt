@@ -1,4 +1,6 @@
--- The at-lines of a sheet: their calls stand in the text, and come before the end.
+-- The at-lines of a sheet have calls that stand in the text, and come before the end. Every line of a text stands in it at its position,
+-- and only a line with the word `at`, a clock and one call or more says an at-line; so each line that is read keeps what holds of the
+-- at-lines so far.
 use Rattle.std.proofs.Common.{◌≡◌, ℕ, suc, ◌+◌, ◌<◌, Bool, true, false, cond, ◌&&◌, ltb, List, [], ◌∷◌, ◌++◌, length, take, drop, is_some, Some, None, Ok, Option, unwrap_or, sym, refl, ap, ◌∙◌, subst, ⊎_elim, arith, length-append}
 use Rattle.std.specs.List.{flat_map, AllByRecursion}
 use Rattle.std.specs.Option.{option_map}
@@ -9,22 +11,22 @@ use Rattle.model.specs.declared.calls.Call.{Call}
 use Rattle.forms.specs.Forms.{is_remark}
 use Rattle.forms.specs.Items.{inside, is_number, items, numbers}
 use Rattle.forms.specs.Laws.{Follow, behind, with_end}
-use Rattle.forms.specs.Lines.{Line, first_place, lines}
+use Rattle.forms.specs.Lines.{Line, first_position, lines}
 use Rattle.forms.specs.Sayings.{all_calls, at_said, call, duty_said, end_said, queue_said, said, said_by_items, says, sheet_of_numbers, some_calls}
-use Rattle.forms.specs.declared.faults.Place.{Place}
+use Rattle.forms.specs.declared.faults.Position.{Position}
 use Rattle.forms.specs.declared.sayings.QueueName.TheVariants.{First, Worth}
 use Rattle.forms.specs.declared.sayings.Said.{Said}
 use Rattle.forms.specs.declared.sayings.Said.TheVariants.{Sheet, Duty as AddDuty, Queue, At as AtClock, End, Remark}
 use Rattle.forms.proofs.Apart.{taken_apart}
-use Rattle.sheet.specs.Ats.{AtLine, behind_first, calls_in}
-use Rattle.sheet.specs.Laws.{CallsStand, Holds, SheetsHold}
+use Rattle.sheet.specs.Ats.{AtLine, behind_first, leading_calls}
+use Rattle.sheet.specs.Laws.{CallsStand, CallsBeforeEnd, SheetsHaveCalls}
 use Rattle.sheet.specs.Orders.{SoFar, at_line, line_judged, nothing_read, with_said}
 use Rattle.sheet.specs.Sheets.{late}
-use Rattle.sheet.proofs.Kept.{lines_keep, read_whole, taken_up}
+use Rattle.sheet.proofs.Kept.{lines_keep, text_is_read, taken_up}
 
--- A line stands in the text at its place.
+-- A line stands in the text at its position.
 abbrev Stands : List ℕ → Line → Type 0
-Stands text l = drop l.place.byte (take (l.place.byte + length l.bytes) text) ≡ l.bytes
+Stands text l = drop l.position.byte (take (l.position.byte + length l.bytes) text) ≡ l.bytes
 
 cut_out : (before bytes end rest : List ℕ) (n : ℕ) → length before ≡ n
     → drop n (take (n + length bytes) (before ++ ((bytes ++ end) ++ rest))) ≡ bytes
@@ -34,12 +36,12 @@ cut_out before bytes end rest n size =
     ∙ take_at bytes (end ++ rest) (length bytes) refl
 
 -- Lines that follow each other behind some bytes stand in the text that they make.
-stand : (before : List ℕ) (p : Place) (ls : List Line) → length before ≡ p.byte → Follow p ls
+stand : (before : List ℕ) (p : Position) (ls : List Line) → length before ≡ p.byte → Follow p ls
     → AllByRecursion (Stands (before ++ flat_map with_end ls)) ls
 stand before p [] size follow = tt
 stand before p (l ∷ ls) size follow =
     let rest = flat_map with_end ls in (
-      subst (λ (q : Place). drop q.byte (take (q.byte + length l.bytes) (before ++ (with_end l ++ rest))) ≡ l.bytes) (sym follow.0)
+      subst (λ (q : Position). drop q.byte (take (q.byte + length l.bytes) (before ++ (with_end l ++ rest))) ≡ l.bytes) (sym follow.0)
           (cut_out before l.bytes (cond l.ended (10 ∷ []) []) rest p.byte size),
       ⊎_elim
           (λ ended.
@@ -52,20 +54,20 @@ stand before p (l ∷ ls) size follow =
           follow.2,
     )
 
--- Calls that all stand are all handed out.
-first_call : (o : Option Call) (is : List (List ℕ)) → is_some o ≡ true → length (calls_in is) ≡ length is
-    → length (elim o as (λ x. List Call) [ None ↦ [] | Some c ↦ c ∷ calls_in is ]) ≡ suc (length is)
+-- Where every item is a call, all of them are handed out.
+first_call : (o : Option Call) (is : List (List ℕ)) → is_some o ≡ true → length (leading_calls is) ≡ length is
+    → length (elim o as (λ x. List Call) [ None ↦ [] | Some c ↦ c ∷ leading_calls is ]) ≡ suc (length is)
 first_call None is stands rest = cc
 first_call (Some c) is stands rest = ap suc rest
 
-every_call : (is : List (List ℕ)) → all_calls is ≡ true → length (calls_in is) ≡ length is
+every_call : (is : List (List ℕ)) → all_calls is ≡ true → length (leading_calls is) ≡ length is
 every_call [] all = refl
 every_call (i ∷ is) all =
     let both = and_parts (is_some (call i)) (all_calls is) all in
     first_call (call i) is both.0 (every_call is both.1)
 
 some_handed_out : (is : List (List ℕ)) → some_calls is ≡ true
-    → (0 < length (calls_in is)) × (length (calls_in is) ≡ length is)
+    → (0 < length (leading_calls is)) × (length (leading_calls is) ≡ length is)
 some_handed_out [] all = cc
 some_handed_out (i ∷ is) all = let same = every_call (i ∷ is) all in (omega arith, same)
 
@@ -118,11 +120,11 @@ value_at : (o : Option Said) (clock : ℕ) → unwrap_or o Remark ≡ AtClock cl
 value_at None clock e = cc
 value_at (Some x) clock e = ap Some e
 
--- The calls of an at-line that stands in the text.
+-- These bytes of an at-line have one call or more behind the clock, and nothing else.
 abbrev HandedOut : List ℕ → Type 0
 HandedOut bs =
-    (0 < length (calls_in (behind_first (behind_first (items 0 (inside bs))))))
-    × (length (calls_in (behind_first (behind_first (items 0 (inside bs))))) ≡ length (behind_first (behind_first (items 0 (inside bs)))))
+    (0 < length (leading_calls (behind_first (behind_first (items 0 (inside bs))))))
+    × (length (leading_calls (behind_first (behind_first (items 0 (inside bs))))) ≡ length (behind_first (behind_first (items 0 (inside bs)))))
 
 line_calls : (text : List ℕ) (l : Line) (clock : ℕ) → Stands text l → says l ≡ AtClock clock → CallsStand text (at_line clock l)
 line_calls text l clock stands e =
@@ -132,12 +134,8 @@ line_calls text l clock stands e =
 -- Each line keeps the calls of the at-lines so far.
 with_calls : (text : List ℕ) (s : SoFar) (l : Line) (x : Said) → AllByRecursion (CallsStand text) s.ats
     → ((clock : ℕ) → x ≡ AtClock clock → CallsStand text (at_line clock l)) → AllByRecursion (CallsStand text) (with_said s l x).ats
-with_calls text s l Sheet all new = all
-with_calls text s l (AddDuty place d) all new = all
-with_calls text s l (Queue name) all new = all
 with_calls text s l (AtClock clock) all new = All-push (CallsStand text) s.ats (at_line clock l) all (new clock refl)
-with_calls text s l (End ticks) all new = all
-with_calls text s l Remark all new = all
+with_calls text s l what all new = all
 
 -- With lines still to come that stand in the text, the calls of the at-lines so far stand there.
 abbrev Standing : List ℕ → List Line → SoFar → Type 0
@@ -160,14 +158,14 @@ on_time ticks (a ∷ later) e =
     (cases_Bool (ltb a.clock ticks))
 
 -- Every line of a text stands in it.
-text_stands : (text : List ℕ) → AllByRecursion (Stands text) (lines first_place text)
+text_stands : (text : List ℕ) → AllByRecursion (Stands text) (lines first_position text)
 text_stands text =
-    let made = taken_apart.by_lines first_place text in
-    subst (λ (xs : List ℕ). AllByRecursion (Stands xs) (lines first_place text)) made.whole
-    (stand [] first_place (lines first_place text) refl made.follow)
+    let made = taken_apart.by_lines first_position text in
+    subst (λ (xs : List ℕ). AllByRecursion (Stands xs) (lines first_position text)) made.whole
+    (stand [] first_position (lines first_position text) refl made.follow)
 
-pub sheets_hold : SheetsHold
-sheets_hold text set e =
-    let read = read_whole text set e in
-    let standing = lines_keep (Standing text) (one_more text) (lines first_place text) nothing_read read.last (text_stands text, tt) read.lines in
-    subst (Holds text) (sym read.is) (record { called = standing.1; before_end = on_time read.last.ticks read.last.ats read.in_time })
+pub sheets_have_calls : SheetsHaveCalls
+sheets_have_calls text set e =
+    let read = text_is_read text set e in
+    let standing = lines_keep (Standing text) (one_more text) (lines first_position text) nothing_read read.last (text_stands text, tt) read.lines in
+    subst (CallsBeforeEnd text) (sym read.is) (record { called = standing.1; before_end = on_time read.last.ticks read.last.ats read.in_time })

@@ -4,15 +4,15 @@ use Rattle.std.proofs.lemmas.Bool.{cases_Bool}
 use Rattle.std.proofs.lemmas.Iterator.{YieldsList}
 use Rattle.std.proofs.lemmas.Iterator.Consumers.{YieldsList-from_shown}
 use Rattle.forms.specs.Lines.{HandsOut, Line, begun_by, line_of, lines, lines_left, next_byte, next_line}
-use Rattle.forms.specs.declared.faults.Place.{Place}
+use Rattle.forms.specs.declared.faults.Position.{Position}
 use Rattle.forms.specs.declared.lines.Reader.{Reader}
 
-begun_length : (b : ℕ) (p : Place) (ls : List Line) (n : ℕ) → length ls ≤ n → length (begun_by b p ls) ≤ n + 1
+begun_length : (b : ℕ) (p : Position) (ls : List Line) (n : ℕ) → length ls ≤ n → length (begun_by b p ls) ≤ n + 1
 begun_length b p [] n few = omega arith
 begun_length b p (l ∷ ls) n few = omega arith
 
 -- No more lines than bytes.
-pub lines_within : (p : Place) (text : List ℕ) → length (lines p text) ≤ length text
+pub lines_within : (p : Position) (text : List ℕ) → length (lines p text) ≤ length text
 lines_within p [] = omega arith
 lines_within p (b ∷ bs) =
     ⊎_elim

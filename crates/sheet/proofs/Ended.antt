@@ -1,4 +1,6 @@
--- The end line of lines without a fault, and the first at-line that is not before it.
+-- The end line of lines without a fault, and the first at-line whose clock is not before the end. Behind the end line only remarks may
+-- come, so the ticks that it sets stay; and the at-lines that lines have set stand in the order of these lines, so the first late one can
+-- be looked for among the lines.
 use Rattle.std.proofs.Common.{◌≡◌, ℕ, ◌<◌, ◌≤◌, Bool, true, false, cond, ltb, ◌⊎◌, List, [], ◌∷◌, ◌++◌, Some, None, Option, sym, refl, ap, ◌∙◌, subst, inl, inr, ⊎_elim, arith}
 use Rattle.std.proofs.lemmas.Bool.{cases_Bool, le-ltb, ltb-false, ltb-true}
 use Rattle.forms.specs.Faults.{Fault, fault}
@@ -43,15 +45,8 @@ over_only : (s : SoFar) (l : Line) (what : Said) → over s.stage ≡ true → i
 over_only s l what is_over next = at_stage s.stage what is_over next
   where
     at_stage : (stage : Stage) (what : Said) → over stage ≡ true → in_order stage what ≡ true → with_said s l what ≡ s
-    at_stage Start what is_over next = cc
-    at_stage Duties what is_over next = cc
-    at_stage Ats what is_over next = cc
-    at_stage Over Sheet is_over next = cc
-    at_stage Over (AddDuty place d) is_over next = cc
-    at_stage Over (Queue name) is_over next = cc
-    at_stage Over (At clock) is_over next = cc
-    at_stage Over (End ticks) is_over next = cc
     at_stage Over Remark is_over next = refl
+    at_stage stage what is_over next = cc
 
 stays_over : (ls : List Line) (s : SoFar) → over s.stage ≡ true → Faultless s ls → set_by_lines s ls ≡ s
 stays_over [] s is_over faultless = refl
@@ -61,20 +56,18 @@ stays_over (l ∷ ls) s is_over faultless =
     let same : with_said s l (says l) ≡ s = over_only s l (says l) is_over next in
     ap (λ t. set_by_lines t ls) same ∙ stays_over ls s is_over (subst (λ t. Faultless t ls) same (later_faultless s l ls faultless))
 
--- What a line says is an end, or does not reach the end.
+-- A line either says the end, or what it says leaves the end not reached.
 record IsEnd (what : Said) : Type 0 where
   ticks : ℕ
   is : what ≡ End ticks
 
 no_end_yet : (s : SoFar) (l : Line) (what : Said) → over s.stage ≡ false → IsEnd what ⊎ (over (with_said s l what).stage ≡ false)
 no_end_yet s l Sheet not_yet = inr refl
-no_end_yet s l (AddDuty place d) not_yet = inr not_yet
 no_end_yet s l (Queue name) not_yet = inr refl
-no_end_yet s l (At clock) not_yet = inr not_yet
 no_end_yet s l (End ticks) not_yet = inl (record { ticks = ticks; is = refl })
-no_end_yet s l Remark not_yet = inr not_yet
+no_end_yet s l what not_yet = inr not_yet
 
--- One line more before a line that says something.
+-- A line that says something still does with one line more before it; and the first line says what it says.
 said_later : (l : Line) (ls : List Line) (what : Said) → Saying ls what → Saying (l ∷ ls) what
 said_later l ls what r =
     record { before = l ∷ r.before; line = r.line; behind = r.behind; whole = ap (λ xs. l ∷ xs) r.whole; is_said = r.is_said }
@@ -116,17 +109,13 @@ said_end ls s ticks faultless r =
     ap (set_by_lines s) r.whole ∙ set_behind s r.before (r.line ∷ r.behind) ∙ stays ∙ set in
     record { reached = ap (λ (v : SoFar). over v.stage) all; with_ticks = ap (λ (v : SoFar). v.ticks) all }
 
--- The first at-line that is late, by the lines.
+-- The first at-line that is late, looked for among the lines.
 abbrev fault_at : Line → Fault
-fault_at l = fault 16 SheetLayer l.place
+fault_at l = fault 16 SheetLayer l.position
 
 abbrev late_or : ℕ → Line → Said → Option Fault → Option Fault
-late_or ticks l Sheet later = later
-late_or ticks l (AddDuty place d) later = later
-late_or ticks l (Queue name) later = later
 late_or ticks l (At clock) later = cond (ltb clock ticks) later (Some (fault_at l))
-late_or ticks l (End n) later = later
-late_or ticks l Remark later = later
+late_or ticks l what later = later
 
 abbrev pub late_line : ℕ → List Line → Option Fault
 late_line ticks [] = None
@@ -147,18 +136,14 @@ one_later ticks [] l clock later = ⊎_elim (λ t. rw t) (λ f. rw f) (cases_Boo
 one_later ticks (a ∷ ats) l clock later =
     ⊎_elim (λ t. rw t (one_later ticks ats l clock later)) (λ f. rw f) (cases_Bool (ltb a.clock ticks))
 
-taken_up : (ticks : ℕ) (s : SoFar) (l : Line) (what : Said) (later : Option Fault)
+late_with_said : (ticks : ℕ) (s : SoFar) (l : Line) (what : Said) (later : Option Fault)
     → or_else (late ticks (with_said s l what).ats) later ≡ or_else (late ticks s.ats) (late_or ticks l what later)
-taken_up ticks s l Sheet later = refl
-taken_up ticks s l (AddDuty place d) later = refl
-taken_up ticks s l (Queue name) later = refl
-taken_up ticks s l (At clock) later = one_later ticks s.ats l clock later
-taken_up ticks s l (End n) later = refl
-taken_up ticks s l Remark later = refl
+late_with_said ticks s l (At clock) later = one_later ticks s.ats l clock later
+late_with_said ticks s l what later = refl
 
 late_all : (ticks : ℕ) (ls : List Line) (s : SoFar) → late ticks (set_by_lines s ls).ats ≡ or_else (late ticks s.ats) (late_line ticks ls)
 late_all ticks [] s = sym (or_none (late ticks s.ats))
-late_all ticks (l ∷ ls) s = late_all ticks ls (with_said s l (says l)) ∙ taken_up ticks s l (says l) (late_line ticks ls)
+late_all ticks (l ∷ ls) s = late_all ticks ls (with_said s l (says l)) ∙ late_with_said ticks s l (says l) (late_line ticks ls)
 
 pub late_by_lines : (ticks : ℕ) (ls : List Line) → late ticks (set_by_lines nothing_read ls).ats ≡ late_line ticks ls
 late_by_lines ticks ls = late_all ticks ls nothing_read
@@ -166,25 +151,22 @@ late_by_lines ticks ls = late_all ticks ls nothing_read
 pub record LateLine (ls : List Line) (ticks : ℕ) (f : Fault) : Type 0 where
   pub line : Line
   pub first : FirstLate ls ticks line
-  pub told : fault_at line ≡ f
+  pub fault_is : fault_at line ≡ f
 
--- What a line says is late, or the later lines decide; and then it says no clock that is late.
+-- Either a line says a clock that is late, or it says none, and the lines behind it decide.
 record Late (ticks : ℕ) (what : Said) : Type 0 where
   clock : ℕ
   is : what ≡ At clock
   late : ticks ≤ clock
 
-record Passed (ticks : ℕ) (l : Line) (what : Said) : Type 0 where
+record NotLate (ticks : ℕ) (l : Line) (what : Said) : Type 0 where
   on_time : (c : ℕ) → what ≡ At c → c < ticks
   goes_on : (later : Option Fault) → late_or ticks l what later ≡ later
 
 at_same : (b c : ℕ) → At b ≡ At c → b ≡ c
 at_same b c e = cc
 
-which : (ticks : ℕ) (l : Line) (what : Said) → Late ticks what ⊎ Passed ticks l what
-which ticks l Sheet = inr (record { on_time = λ c e. cc; goes_on = λ later. refl })
-which ticks l (AddDuty place d) = inr (record { on_time = λ c e. cc; goes_on = λ later. refl })
-which ticks l (Queue name) = inr (record { on_time = λ c e. cc; goes_on = λ later. refl })
+which : (ticks : ℕ) (l : Line) (what : Said) → Late ticks what ⊎ NotLate ticks l what
 which ticks l (At clock) =
     ⊎_elim
     (λ t.
@@ -194,8 +176,7 @@ which ticks l (At clock) =
     }))
     (λ f. inl (record { clock = clock; is = refl; late = ltb-false clock ticks f }))
     (cases_Bool (ltb clock ticks))
-which ticks l (End n) = inr (record { on_time = λ c e. cc; goes_on = λ later. refl })
-which ticks l Remark = inr (record { on_time = λ c e. cc; goes_on = λ later. refl })
+which ticks l what = inr (record { on_time = λ c e. cc; goes_on = λ later. refl })
 
 late_here : (ticks : ℕ) (l : Line) (clock : ℕ) (later : Option Fault) → says l ≡ At clock → ticks ≤ clock
     → late_or ticks l (says l) later ≡ Some (fault_at l)
@@ -237,10 +218,10 @@ late_found ticks (l ∷ ls) f e =
             late = late.late;
             earlier = λ c r. nothing_said (At c) r;
           };
-      told = cc;
+      fault_is = cc;
     })
-    (λ passed.
-    let r = late_found ticks ls f (sym (passed.goes_on (late_line ticks ls)) ∙ e) in
+    (λ not_late.
+    let r = late_found ticks ls f (sym (not_late.goes_on (late_line ticks ls)) ∙ e) in
     record {
       line = r.line;
       first =
@@ -251,9 +232,9 @@ late_found ticks (l ∷ ls) f e =
             clock = r.first.clock;
             is_at = r.first.is_at;
             late = r.first.late;
-            earlier = λ c said. ⊎_elim (passed.on_time c) (r.first.earlier c) (first_or_later l r.first.before (At c) said);
+            earlier = λ c said. ⊎_elim (not_late.on_time c) (r.first.earlier c) (first_or_later l r.first.before (At c) said);
           };
-      told = r.told;
+      fault_is = r.fault_is;
     })
     (which ticks l (says l))
 
@@ -265,8 +246,8 @@ late_behind ticks (b ∷ before) l behind clock is late earlier =
     (λ no_late.
     let on_time = earlier no_late.clock (said_first b before (At no_late.clock) no_late.is) in
     absurd (omega (arith, on_time, no_late.late)))
-    (λ passed.
-    passed.goes_on (late_line ticks (before ++ (l ∷ behind)))
+    (λ not_late.
+    not_late.goes_on (late_line ticks (before ++ (l ∷ behind)))
     ∙ late_behind ticks before l behind clock is late (λ c r. earlier c (said_later b before (At c) r)))
     (which ticks b (says b))
 
@@ -278,8 +259,8 @@ none_late ticks [] e c r = nothing_said (At c) r
 none_late ticks (l ∷ ls) e c r =
     ⊎_elim
     (λ late. let other = sym (late_here ticks l late.clock (late_line ticks ls) late.is late.late) ∙ e in cc)
-    (λ passed.
-    ⊎_elim (passed.on_time c) (none_late ticks ls (sym (passed.goes_on (late_line ticks ls)) ∙ e) c) (first_or_later l ls (At c) r))
+    (λ not_late.
+    ⊎_elim (not_late.on_time c) (none_late ticks ls (sym (not_late.goes_on (late_line ticks ls)) ∙ e) c) (first_or_later l ls (At c) r))
     (which ticks l (says l))
 
 pub late_none : (ticks : ℕ) (ls : List Line) → ((c : ℕ) → Saying ls (At c) → c < ticks) → late_line ticks ls ≡ None
@@ -288,5 +269,5 @@ late_none ticks (l ∷ ls) on_time =
     ⊎_elim
     (λ late.
     let before = on_time late.clock (said_first l ls (At late.clock) late.is) in absurd (omega (arith, before, late.late)))
-    (λ passed. passed.goes_on (late_line ticks ls) ∙ late_none ticks ls (λ c r. on_time c (said_later l ls (At c) r)))
+    (λ not_late. not_late.goes_on (late_line ticks ls) ∙ late_none ticks ls (λ c r. on_time c (said_later l ls (At c) r)))
     (which ticks l (says l))

@@ -1,11 +1,11 @@
--- What each line keeps is kept by all lines of a sheet.
+-- What every line of a sheet keeps, all of them keep; and what is known of a line, and of a text, that was read without a fault.
 use Rattle.std.proofs.Common.{◌≡◌, ℕ, ◌≤◌, Bool, true, false, leb, List, [], ◌∷◌, ◌++◌, length, Some, None, Ok, Err, Option, Result, sym, refl, subst}
 use Rattle.std.specs.List.{AllByRecursion}
 use Rattle.std.proofs.lemmas.Bool.{leb-true}
 use Rattle.forms.specs.Faults.{Fault, judged, unless}
-use Rattle.forms.specs.Lines.{Line, first_place, lines}
+use Rattle.forms.specs.Lines.{Line, first_position, lines}
 use Rattle.forms.specs.Sayings.{fault_15, forms_faults, letters_faults, says}
-use Rattle.forms.specs.declared.faults.Place.{Place}
+use Rattle.forms.specs.declared.faults.Position.{Position}
 use Rattle.sheet.specs.Orders.{SoFar, fault_17, line_judged, lines_judged, nothing_read, sheet_faults, table_faults, with_said}
 use Rattle.sheet.specs.Sheets.{Set, late, missing_line, of_lines, over, sheet_of, too_long}
 use Rattle.sheet.proofs.Judgements.{judged_value}
@@ -23,9 +23,9 @@ module _ (P : List Line → SoFar → Type 0) (step : (s u : SoFar) (l : Line) (
   lines_keep (l ∷ ls) s t kept e = one_line s t l ls (line_judged s l) refl kept (λ u now e-u. lines_keep ls u t now e-u) e
 
 -- A test that gives no fault has passed.
-pub passed : (t : Bool) (f : Fault) → unless t f ≡ None → t ≡ true
-passed true f e = refl
-passed false f e = cc
+pub unless_none : (t : Bool) (f : Fault) → unless t f ≡ None → t ≡ true
+unless_none true f e = refl
+unless_none false f e = cc
 
 -- Where the value stands, there is no fault.
 no_faults : {X : Type 0} (fs : List (Option Fault)) (x z : X) → judged fs x ≡ Ok z → AllByRecursion (λ (o : Option Fault). o ≡ None) fs
@@ -50,15 +50,15 @@ taken_up s u l e =
     }
 
 -- A text that is a sheet is short, and its lines have set the sheet.
-pub record ReadWhole (text : List ℕ) (set : Set) : Type 0 where
+pub record IsRead (text : List ℕ) (set : Set) : Type 0 where
   pub short : length text ≤ 32768
   pub last : SoFar
-  pub lines : lines_judged nothing_read (lines first_place text) ≡ Ok last
+  pub lines : lines_judged nothing_read (lines first_position text) ≡ Ok last
   pub is : set ≡ record { table = last.table; queue = last.queue; ats = last.ats; ticks = last.ticks }
   pub in_time : late last.ticks last.ats ≡ None
 
-read_lines : (text : List ℕ) (set : Set) (missing : Place) (r : Result SoFar Fault) → length text ≤ 32768
-    → lines_judged nothing_read (lines first_place text) ≡ r → of_lines missing r ≡ Ok set → ReadWhole text set
+read_lines : (text : List ℕ) (set : Set) (missing : Position) (r : Result SoFar Fault) → length text ≤ 32768
+    → lines_judged nothing_read (lines first_position text) ≡ r → of_lines missing r ≡ Ok set → IsRead text set
 read_lines text set missing (Ok s) short judged e =
     let made : Set = record { table = s.table; queue = s.queue; ats = s.ats; ticks = s.ticks } in
     let faults = unless (over s.stage) _ ∷ late s.ticks s.ats ∷ [] in
@@ -72,13 +72,13 @@ read_lines text set missing (Ok s) short judged e =
 read_lines text set missing (Err f) short judged e = cc
 
 read_short : (text : List ℕ) (set : Set) (o : Option Fault) (r : Result Set Fault) → too_long text ≡ o
-    → (length text ≤ 32768 → r ≡ Ok set → ReadWhole text set)
-    → elim o as (λ x. Result Set Fault) [ Some f ↦ Err f | None ↦ r ] ≡ Ok set → ReadWhole text set
+    → (length text ≤ 32768 → r ≡ Ok set → IsRead text set)
+    → elim o as (λ x. Result Set Fault) [ Some f ↦ Err f | None ↦ r ] ≡ Ok set → IsRead text set
 read_short text set (Some f) r long read e = cc
-read_short text set None r short read e = read (leb-true _ _ (passed (leb (length text) 32768) _ short)) e
+read_short text set None r short read e = read (leb-true _ _ (unless_none (leb (length text) 32768) _ short)) e
 
-pub read_whole : (text : List ℕ) (set : Set) → sheet_of text ≡ Ok set → ReadWhole text set
-read_whole text set e =
-    let judged = lines_judged nothing_read (lines first_place text) in
+pub text_is_read : (text : List ℕ) (set : Set) → sheet_of text ≡ Ok set → IsRead text set
+text_is_read text set e =
+    let judged = lines_judged nothing_read (lines first_position text) in
     read_short text set (too_long text) (of_lines (missing_line text) judged) refl
     (λ short e-lines. read_lines text set (missing_line text) judged short refl e-lines) e

@@ -11,7 +11,7 @@ use Rattle.sheet.specs.Sheets.{late}
 use Rattle.sheet.specs.declared.ats.At.{At}
 
 abbrev late_at : At → Fault
-late_at a = fault 16 Sheet a.part.place
+late_at a = fault 16 Sheet a.part.position
 
 step : (t u : Bool) (o : Option At) (x : Option Fault) (a : At) → t ≡ not u → option_map late_at o ≡ x
     → option_map late_at (cond t (Some a) o) ≡ cond u x (Some (late_at a))
@@ -24,9 +24,9 @@ found ticks (a ∷ ats) =
     let opposite : leb ticks a.clock ≡ not (ltb a.clock ticks) = grind (arith, nat_tests) in
     step _ _ _ _ a opposite (found ticks ats)
 
--- The fault of what was found, if anything.
+-- The fault of the at-line that was found, if one was.
 pub late_found : (ticks : ℕ) (ats : List At) (r : Option (Bor At))
     → option_map (λ x. x.now) r ≡ find (λ (a : At). leb ticks a.clock) ats
-    → option_map (λ (x : Bor At). fault 16 Sheet x.now.part.place) r ≡ late ticks (map at_of ats)
+    → option_map (λ (x : Bor At). fault 16 Sheet x.now.part.position) r ≡ late ticks (map at_of ats)
 late_found ticks ats None e = ap (option_map late_at) e ∙ found ticks ats
 late_found ticks ats (Some a) e = ap (option_map late_at) e ∙ found ticks ats

@@ -1,15 +1,16 @@
--- Reading a text gives what the rules say: line by line, and then the end of the text.
+-- Reading a text gives what the rules say. Both ways go by the same cases: the text is too long; a line is the first that has a fault; no
+-- line says the end; an at-line is the first that is late; or none of these, and the text is a sheet.
 use Rattle.std.proofs.Common.{◌≡◌, ℕ, ◌<◌, ◌≤◌, Bool, true, false, List, [], ◌∷◌, ◌++◌, length, Some, None, Ok, Err, Option, Result, sym, refl, ap, ◌∙◌, subst, ⊎_elim}
 use Rattle.std.proofs.lemmas.Bool.{cases_Bool, cases_lt, le-leb, lt-leb}
 use Rattle.forms.specs.Faults.{Fault, fault, judged, unless}
-use Rattle.forms.specs.Lines.{Line, first_place, lines}
+use Rattle.forms.specs.Lines.{Line, first_position, lines}
 use Rattle.forms.specs.Sayings.{says}
 use Rattle.forms.specs.declared.faults.Layer.TheVariants.{Sheet as SheetLayer}
-use Rattle.forms.specs.declared.faults.Place.{Place}
+use Rattle.forms.specs.declared.faults.Position.{Position}
 use Rattle.forms.specs.declared.sayings.Said.TheVariants.{End}
 use Rattle.sheet.specs.Orders.{SoFar, line_judged, lines_judged, nothing_read, with_said}
 use Rattle.sheet.specs.Rules.{ByRules, Counts, FaultOf, Faultless, Saying, SheetOf, too_long as TooLong, of_line, no_end, too_late, set_by_lines, set_of}
-use Rattle.sheet.specs.Sheets.{Set, late, missing_line, of_lines, over, sheet_of, whole}
+use Rattle.sheet.specs.Sheets.{Set, finished, late, missing_line, of_lines, over, sheet_of}
 use Rattle.sheet.proofs.Ended.{end_said, first_faultless, first_late, late_by_lines, late_found, late_line, late_none, later_faultless, none_late, none_within, one_more, said_end}
 use Rattle.sheet.proofs.Faulty.{counts_line, line_counts, line_sets, line_without, without_line}
 
@@ -90,34 +91,34 @@ alone : (o : Option Fault) (s : SoFar) → judged (o ∷ []) (set_of s) ≡ unle
 alone None s = refl
 alone (Some f) s = refl
 
-whole_ended : (missing : Place) (s : SoFar) → over s.stage ≡ true → whole missing s ≡ unless_late (late s.ticks s.ats) s
-whole_ended missing s reached =
+finished_ended : (missing : Position) (s : SoFar) → over s.stage ≡ true → finished missing s ≡ unless_late (late s.ticks s.ats) s
+finished_ended missing s reached =
     ap (λ (t : Bool). judged (unless t (fault 16 SheetLayer missing) ∷ late s.ticks s.ats ∷ []) (set_of s)) reached
     ∙ alone (late s.ticks s.ats) s
 
-whole_not_ended : (missing : Place) (s : SoFar) → over s.stage ≡ false → whole missing s ≡ Err (fault 16 SheetLayer missing)
-whole_not_ended missing s fails =
+finished_not_ended : (missing : Position) (s : SoFar) → over s.stage ≡ false → finished missing s ≡ Err (fault 16 SheetLayer missing)
+finished_not_ended missing s fails =
     ap (λ (t : Bool). judged (unless t (fault 16 SheetLayer missing) ∷ late s.ticks s.ats ∷ []) (set_of s)) fails
 
 module _ (text : List ℕ) where
   abbrev all : List Line
-  all = lines first_place text
+  all = lines first_position text
 
   abbrev set : SoFar
-  set = set_by_lines nothing_read (lines first_place text)
+  set = set_by_lines nothing_read (lines first_position text)
 
   abbrev if_short : Option Fault → Result Set Fault
   if_short o =
-      elim o as (λ x. Result Set Fault) [ Some f ↦ Err f | None ↦ of_lines (missing_line text) (lines_judged nothing_read (lines first_place text)) ]
+      elim o as (λ x. Result Set Fault) [ Some f ↦ Err f | None ↦ of_lines (missing_line text) (lines_judged nothing_read (lines first_position text)) ]
 
-  read_long : 32768 < length text → sheet_of text ≡ Err (fault 17 SheetLayer first_place)
-  read_long h = ap (λ (t : Bool). if_short (unless t (fault 17 SheetLayer first_place))) (lt-leb (length text) 32768 h)
+  read_long : 32768 < length text → sheet_of text ≡ Err (fault 17 SheetLayer first_position)
+  read_long h = ap (λ (t : Bool). if_short (unless t (fault 17 SheetLayer first_position))) (lt-leb (length text) 32768 h)
 
   read_short : length text ≤ 32768 → sheet_of text ≡ of_lines (missing_line text) (lines_judged nothing_read all)
-  read_short h = ap (λ (t : Bool). if_short (unless t (fault 17 SheetLayer first_place))) (le-leb (length text) 32768 h)
+  read_short h = ap (λ (t : Bool). if_short (unless t (fault 17 SheetLayer first_position))) (le-leb (length text) 32768 h)
 
   -- Where no line has a fault, the end of the text decides.
-  read_faultless : length text ≤ 32768 → Faultless nothing_read all → sheet_of text ≡ whole (missing_line text) set
+  read_faultless : length text ≤ 32768 → Faultless nothing_read all → sheet_of text ≡ finished (missing_line text) set
   read_faultless short faultless = read_short short ∙ ap (of_lines (missing_line text)) (faultless_lines all nothing_read faultless)
 
   late_of : (ticks : ℕ) → set.ticks ≡ ticks → late set.ticks set.ats ≡ late_line ticks all
@@ -135,7 +136,7 @@ module _ (text : List ℕ) where
   late_fault f None short faultless reached is e = cc
   late_fault f (Some g) short faultless reached is e =
       let r = late_found set.ticks all f (is ∙ ap Some (err_same g f e)) in
-      subst (FaultOf text) r.told (too_late set.ticks r.line short faultless (end_is_said faultless reached) r.first)
+      subst (FaultOf text) r.fault_is (too_late set.ticks r.line short faultless (end_is_said faultless reached) r.first)
 
   late_sheet : (s : Set) (o : Option Fault) → length text ≤ 32768 → Faultless nothing_read all → over set.stage ≡ true
       → late_line set.ticks all ≡ o → unless_late o set ≡ Ok s → SheetOf text s
@@ -151,31 +152,31 @@ module _ (text : List ℕ) where
       })
   late_sheet s (Some g) short faultless reached is e = cc
 
-  end_fault : (f : Fault) → length text ≤ 32768 → Faultless nothing_read all → whole (missing_line text) set ≡ Err f → FaultOf text f
+  end_fault : (f : Fault) → length text ≤ 32768 → Faultless nothing_read all → finished (missing_line text) set ≡ Err f → FaultOf text f
   end_fault f short faultless e =
       ⊎_elim
       (λ reached.
       late_fault f (late_line set.ticks all) short faultless reached refl
-      (ap (λ o. unless_late o set) (sym (late_of set.ticks refl)) ∙ sym (whole_ended (missing_line text) set reached) ∙ e))
+      (ap (λ o. unless_late o set) (sym (late_of set.ticks refl)) ∙ sym (finished_ended (missing_line text) set reached) ∙ e))
       (λ fails.
-      subst (FaultOf text) (err_same (fault 16 SheetLayer (missing_line text)) f (sym (whole_not_ended (missing_line text) set fails) ∙ e))
+      subst (FaultOf text) (err_same (fault 16 SheetLayer (missing_line text)) f (sym (finished_not_ended (missing_line text) set fails) ∙ e))
       (no_end short faultless (no_end_said faultless fails)))
       (cases_Bool (over set.stage))
 
-  end_sheet : (s : Set) → length text ≤ 32768 → Faultless nothing_read all → whole (missing_line text) set ≡ Ok s → SheetOf text s
+  end_sheet : (s : Set) → length text ≤ 32768 → Faultless nothing_read all → finished (missing_line text) set ≡ Ok s → SheetOf text s
   end_sheet s short faultless e =
       ⊎_elim
       (λ reached.
       late_sheet s (late_line set.ticks all) short faultless reached refl
-      (ap (λ o. unless_late o set) (sym (late_of set.ticks refl)) ∙ sym (whole_ended (missing_line text) set reached) ∙ e))
-      (λ fails. let other = sym (whole_not_ended (missing_line text) set fails) ∙ e in cc)
+      (ap (λ o. unless_late o set) (sym (late_of set.ticks refl)) ∙ sym (finished_ended (missing_line text) set reached) ∙ e))
+      (λ fails. let other = sym (finished_not_ended (missing_line text) set fails) ∙ e in cc)
       (cases_Bool (over set.stage))
 
   lines_fault : (f : Fault) (r : Result SoFar Fault) → length text ≤ 32768 → lines_judged nothing_read all ≡ r
       → of_lines (missing_line text) r ≡ Err f → FaultOf text f
   lines_fault f (Ok s) short is e =
       let r = lines_faultless all nothing_read s is in
-      end_fault f short r.0 (subst (λ t. whole (missing_line text) t ≡ Err f) r.1 e)
+      end_fault f short r.0 (subst (λ t. finished (missing_line text) t ≡ Err f) r.1 e)
   lines_fault f (Err g) short is e =
       let r = lines_faulty all nothing_read f (is ∙ ap Err (err_same g f e)) in
       of_line r.before r.line r.behind f short r.whole r.faultless r.counts
@@ -184,13 +185,13 @@ module _ (text : List ℕ) where
       → of_lines (missing_line text) r ≡ Ok s → SheetOf text s
   lines_sheet s (Ok t) short is e =
       let r = lines_faultless all nothing_read t is in
-      end_sheet s short r.0 (subst (λ u. whole (missing_line text) u ≡ Ok s) r.1 e)
+      end_sheet s short r.0 (subst (λ u. finished (missing_line text) u ≡ Ok s) r.1 e)
   lines_sheet s (Err g) short is e = cc
 
   read_fault : (f : Fault) → sheet_of text ≡ Err f → FaultOf text f
   read_fault f e =
       ⊎_elim
-      (λ long. subst (FaultOf text) (err_same (fault 17 SheetLayer first_place) f (sym (read_long long) ∙ e)) (TooLong long))
+      (λ long. subst (FaultOf text) (err_same (fault 17 SheetLayer first_position) f (sym (read_long long) ∙ e)) (TooLong long))
       (λ short. lines_fault f (lines_judged nothing_read all) short refl (sym (read_short short) ∙ e))
       (cases_lt 32768 (length text))
 
@@ -210,16 +211,16 @@ module _ (text : List ℕ) where
   fault_read f (no_end short faultless none) =
       let fails : over set.stage ≡ false =
       ⊎_elim (λ reached. absurd (none set.ticks (end_is_said faultless reached))) (λ fails. fails) (cases_Bool (over set.stage)) in
-      read_faultless short faultless ∙ whole_not_ended (missing_line text) set fails
+      read_faultless short faultless ∙ finished_not_ended (missing_line text) set fails
   fault_read f (too_late ticks l short faultless ended first) =
       let end = said_end all nothing_read ticks faultless ended in
-      read_faultless short faultless ∙ whole_ended (missing_line text) set end.reached
+      read_faultless short faultless ∙ finished_ended (missing_line text) set end.reached
       ∙ ap (λ o. unless_late o set) (late_of ticks end.with_ticks ∙ first_late ticks all l first)
 
   sheet_read : (s : Set) → SheetOf text s → sheet_of text ≡ Ok s
   sheet_read s r =
       let end = said_end all nothing_read s.ticks r.faultless r.ended in
-      read_faultless r.short r.faultless ∙ whole_ended (missing_line text) set end.reached
+      read_faultless r.short r.faultless ∙ finished_ended (missing_line text) set end.reached
       ∙ ap (λ o. unless_late o set) (late_of s.ticks end.with_ticks ∙ late_none s.ticks all r.on_time)
       ∙ ap Ok (sym r.sets)
 

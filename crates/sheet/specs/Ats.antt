@@ -3,24 +3,24 @@ use Rattle.std.specs.Prelude.{ℕ, List, [], ◌∷◌, Some, None}
 use Rattle.model.specs.declared.calls.Call.{Call}
 use Rattle.forms.specs.Items.{inside, items, items_left}
 use Rattle.forms.specs.Sayings.{call}
-use Rattle.forms.specs.declared.faults.Place.{Place}
+use Rattle.forms.specs.declared.faults.Position.{Position}
 use Rattle.sheet.specs.declared.ats.At.{At}
 use Rattle.sheet.specs.declared.ats.Calls.{Calls}
 
--- An at-line: its clock, its place and its bytes.
+-- An at-line: its clock, the position of its first byte, and its bytes.
 pub record AtLine : Type 0 where
   pub clock : ℕ
-  pub place : Place
+  pub position : Position
   pub bytes : List ℕ
 
 -- The at-line that a part of a text stands for.
 abbrev pub at_of : At → AtLine
-at_of a = record { clock = a.clock; place = a.part.place; bytes = a.part.bytes.now }
+at_of a = record { clock = a.clock; position = a.part.position; bytes = a.part.bytes.now }
 
 -- The calls that items are, up to the first that is none.
-abbrev pub calls_in : List (List ℕ) → List Call
-calls_in [] = []
-calls_in (i ∷ is) = elim (call i) [ None ↦ [] | Some c ↦ c ∷ calls_in is ]
+abbrev pub leading_calls : List (List ℕ) → List Call
+leading_calls [] = []
+leading_calls (i ∷ is) = elim (call i) [ None ↦ [] | Some c ↦ c ∷ leading_calls is ]
 
 -- What stands behind the first item.
 abbrev pub behind_first : List (List ℕ) → List (List ℕ)
@@ -31,10 +31,10 @@ behind_first (i ∷ is) = is
 abbrev pub call_items : AtLine → List (List ℕ)
 call_items a = behind_first (behind_first (items 0 (inside a.bytes)))
 
--- The calls of an at-line.
-abbrev pub calls_of : AtLine → List Call
-calls_of a = calls_in (call_items a)
+-- The calls of an at-line: up to its first item that is none.
+abbrev pub calls_at : AtLine → List Call
+calls_at a = leading_calls (call_items a)
 
 -- The calls that are still to be handed out.
 abbrev pub calls_left : Calls → List Call
-calls_left r = calls_in (items_left r.items)
+calls_left r = leading_calls (items_left r.items)

@@ -3,4 +3,4 @@ pub mod Laws
 pub mod Orders
 pub mod Rules
 pub mod Sheets
-pub mod Told
+pub mod Reports

@@ -6,14 +6,14 @@ use Rattle.model.specs.declared.duties.Duty.{Duty}
 use Rattle.table.specs.Settings.{table_of}
 use Rattle.forms.specs.Faults.{Fault, fault, judged, unless}
 use Rattle.sheet.specs.Ats.{AtLine, at_of}
-use Rattle.sheet.specs.Told.{table_fault}
+use Rattle.sheet.specs.Reports.{table_fault}
 use Rattle.forms.specs.Lines.{Line}
 use Rattle.forms.specs.Sayings.{forms_faults, letters_faults, says}
 use Rattle.sheet.specs.declared.drafts.Draft.{Draft}
 use Rattle.sheet.specs.declared.drafts.Stage.{Stage}
 use Rattle.sheet.specs.declared.drafts.Stage.TheVariants.{Start, Duties, Ats, Over}
 use Rattle.forms.specs.declared.faults.Layer.TheVariants.{Sheet as SheetLayer}
-use Rattle.forms.specs.declared.faults.Place.{Place}
+use Rattle.forms.specs.declared.faults.Position.{Position}
 use Rattle.forms.specs.declared.sayings.QueueName.{QueueName}
 use Rattle.forms.specs.declared.sayings.QueueName.TheVariants.{First}
 use Rattle.forms.specs.declared.sayings.Said.{Said}
@@ -35,48 +35,40 @@ so_far d =
     record { stage = d.stage; table = table_of d.sheet.setting; queue = d.sheet.queue; ats = map at_of d.sheet.ats.items; ticks = d.sheet.ticks }
 
 -- Which lines may come: first the sheet line; then duties and a queue line; then at-lines and an end line; and remarks
--- anywhere after the first line.
+-- anywhere behind the first line.
 abbrev pub in_order : Stage → Said → Bool
-in_order Start said =
-    elim said [ Sheet ↦ true | AddDuty p d ↦ false | Queue q ↦ false | At c ↦ false | End n ↦ false | Remark ↦ false ]
-in_order Duties said =
-    elim said [ Sheet ↦ false | AddDuty p d ↦ true | Queue q ↦ true | At c ↦ false | End n ↦ false | Remark ↦ true ]
-in_order Ats said =
-    elim said [ Sheet ↦ false | AddDuty p d ↦ false | Queue q ↦ false | At c ↦ true | End n ↦ true | Remark ↦ true ]
-in_order Over said =
-    elim said [ Sheet ↦ false | AddDuty p d ↦ false | Queue q ↦ false | At c ↦ false | End n ↦ false | Remark ↦ true ]
+in_order Start Sheet = true
+in_order Start said = false
+in_order stage Remark = true
+in_order Duties (AddDuty place d) = true
+in_order Duties (Queue name) = true
+in_order Ats (At clock) = true
+in_order Ats (End ticks) = true
+in_order stage said = false
 
 -- There is room for what the line says: at most 256 at-lines.
 abbrev pub has_room : List AtLine → Said → Bool
-has_room ats Sheet = true
-has_room ats (AddDuty place d) = true
-has_room ats (Queue name) = true
 has_room ats (At clock) = nat_lt (length ats) 256
-has_room ats (End ticks) = true
-has_room ats Remark = true
+has_room ats said = true
 
 -- What the table says to a duty: its refusal, or nothing.
-abbrev pub refused_at : Place → List ℕ → Option Fault
+abbrev pub refused_at : Position → List ℕ → Option Fault
 refused_at p [] = None
 refused_at p (number ∷ values) = Some (table_fault p (number ∷ values))
 
-abbrev pub table_says : List Duty → Place → Said → Option Fault
-table_says table p Sheet = None
+abbrev pub table_says : List Duty → Position → Said → Option Fault
 table_says table p (AddDuty place d) = refused_at p (add_refusal table place d)
-table_says table p (Queue name) = None
-table_says table p (At clock) = None
-table_says table p (End ticks) = None
-table_says table p Remark = None
+table_says table p said = None
 
--- The faults of a line at its place in the sheet.
+-- The faults of a line where it stands in the sheet.
 abbrev pub fault_16 : SoFar → Line → Option Fault
-fault_16 s l = unless (in_order s.stage (says l)) (fault 16 SheetLayer l.place)
+fault_16 s l = unless (in_order s.stage (says l)) (fault 16 SheetLayer l.position)
 
 abbrev pub fault_17 : SoFar → Line → Option Fault
-fault_17 s l = unless (has_room s.ats (says l)) (fault 17 SheetLayer l.place)
+fault_17 s l = unless (has_room s.ats (says l)) (fault 17 SheetLayer l.position)
 
 abbrev pub fault_of_table : SoFar → Line → Option Fault
-fault_of_table s l = table_says s.table l.place (says l)
+fault_of_table s l = table_says s.table l.position (says l)
 
 -- Each layer's faults, in the order in which they count.
 abbrev pub sheet_faults : SoFar → Line → List (Option Fault)
@@ -87,7 +79,7 @@ table_faults s l = fault_of_table s l ∷ []
 
 -- The at-line that a line is, with its clock.
 abbrev pub at_line : ℕ → Line → AtLine
-at_line clock l = record { clock = clock; place = l.place; bytes = l.bytes }
+at_line clock l = record { clock = clock; position = l.position; bytes = l.bytes }
 
 -- What a line adds.
 abbrev pub with_said : SoFar → Line → Said → SoFar
@@ -100,20 +92,20 @@ with_said s l (At clock) =
 with_said s l (End ticks) = record { stage = Over; table = s.table; queue = s.queue; ats = s.ats; ticks = ticks }
 with_said s l Remark = s
 
--- What a line says at its place in the sheet, or the first fault of its letters, its form or its order.
+-- What a line says that may come where it stands, or the first fault of its letters, its form or its order.
 abbrev pub order_judged : SoFar → Line → Result Said Fault
 order_judged s l = judged (letters_faults l ++ forms_faults l ++ sheet_faults s l) (says l)
 
--- What the table makes of what a line in its place says; and of a duty.
+-- What the table makes of what such a line says; and of a duty.
 abbrev pub said_judged : SoFar → Line → Said → Result SoFar Fault
-said_judged s l said = judged (table_says s.table l.place said ∷ []) (with_said s l said)
+said_judged s l said = judged (table_says s.table l.position said ∷ []) (with_said s l said)
 
-abbrev pub duty_judged : SoFar → Place → ℕ → Duty → Result SoFar Fault
+abbrev pub duty_judged : SoFar → Position → ℕ → Duty → Result SoFar Fault
 duty_judged s at place d =
     judged (refused_at at (add_refusal s.table place d) ∷ [])
     (record { stage = s.stage; table = after_add s.table place d; queue = s.queue; ats = s.ats; ticks = s.ticks })
 
--- A line at its place in the sheet: the first layer in which it is faulty counts, and in that layer the smallest number.
+-- A line where it stands in the sheet: the first layer in which it is faulty counts, and in that layer the smallest number.
 abbrev pub line_judged : SoFar → Line → Result SoFar Fault
 line_judged s l =
     judged (letters_faults l ++ forms_faults l ++ sheet_faults s l ++ table_faults s l) (with_said s l (says l))
@@ -123,12 +115,12 @@ abbrev pub lines_judged : SoFar → List Line → Result SoFar Fault
 lines_judged s [] = Ok s
 lines_judged s (l ∷ ls) = elim (line_judged s l) [ Ok t ↦ lines_judged t ls | Err f ↦ Err f ]
 
--- What reading a line left, or the fault that it gave.
+-- What a line that was read has set, or its fault.
 abbrev pub left_with : {X E : Type 0} → (E → Fault) → Result X E → SoFar → Result SoFar Fault
-left_with tells (Ok x) s = Ok s
-left_with tells (Err e) s = Err (tells e)
+left_with report (Ok x) s = Ok s
+left_with report (Err e) s = Err (report e)
 
 -- A draft as far as it is read, or a fault.
 abbrev pub drafted : {E : Type 0} → (E → Fault) → Result Draft E → Result SoFar Fault
-drafted tells (Ok d) = Ok (so_far d)
-drafted tells (Err e) = Err (tells e)
+drafted report (Ok d) = Ok (so_far d)
+drafted report (Err e) = Err (report e)

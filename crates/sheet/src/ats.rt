@@ -1,28 +1,30 @@
 // At-lines, and their calls.
 ghost use Rattle.std.specs.Prelude.{◌≡◌};
 ghost use Rattle.std.specs.Iterator.{item_count, YieldsFirst};
-ghost use Rattle.sheet.specs.Ats.{at_of, calls_left, calls_of};
+ghost use Rattle.sheet.specs.Ats.{at_of, calls_left, calls_at};
 
 use forms::{Items, Part, call};
 use model::Call;
 
-// The calls of one at-line, handed out one after the other.
+/// An iterator over the calls of one at-line.
 #[derive(Clone, Copy)]
 pub struct Calls<'a> {
     pub(crate) items: Items<'a>,
 }
 
-// An at-line: its clock, and the part of the text that it is.
+/// A line that says which calls come at a clock.
 #[derive(Clone, Copy, Default)]
 pub struct At<'a> {
+    /// The clock at which its calls are made. In a sheet that was read, it comes before the number of ticks.
     pub clock: u32,
+    /// The line as a part of the text, in which its calls stay.
     pub part: Part<'a>,
 }
 
 impl<'a> At<'a> {
-    // The calls of the at-line.
+    /// The calls of the at-line, in their order.
     pub fn calls(&self) -> Calls<'a>
-        ensures { calls_left result ≡ calls_of (at_of self.now) }
+        ensures { calls_left result ≡ calls_at (at_of self.now) }
     {
         let mut items = Items::new(self.part);
         // The word and the clock.
@@ -39,7 +41,7 @@ impl<'a> Iterator for Calls<'a> {
 
     ghost remaining = { item_count calls_left };
 
-    // The next call. An item that is no call is not passed over, so behind it there is none.
+    /// The next call. The first item that is no call ends them; a sheet that was read has none.
     fn next(&mut self) -> Option<Call> {
         let mut items = self.items;
         let call = call(items.next()?)?;

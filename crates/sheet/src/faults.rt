@@ -1,32 +1,37 @@
-// Faults of a sheet: those of its order and of its table, and those of its lines, which are passed on; each keeps its number, line,
-// byte and layer.
+// Faults of a sheet: those of its order and of its table, and those of its lines, which are passed on. A fault that is passed on keeps its
+// number, its line, its byte and its layer.
 ghost use Rattle.std.specs.Prelude.{◌≡◌};
-ghost use Rattle.forms.specs.Faults.{forms_told};
+ghost use Rattle.forms.specs.Faults.{forms_report};
 ghost use Rattle.model.specs.Refusals.{refusal_code};
-ghost use Rattle.sheet.specs.Told.{row_told, sheet_told, table_told};
+ghost use Rattle.sheet.specs.Reports.{named_row, sheet_report, table_report};
 
-use forms::{FormsFault, Layer, Place, Report};
+use forms::{FormsFault, Layer, Position, Report};
 use model::Refusal;
 
+/// A fault of the lines of a text, up to their order and their number.
 #[derive(Clone, Copy, PartialEq, Eq, Debug)]
 pub enum SheetFault {
+    /// A fault of a line by itself.
     Forms(FormsFault),
-    // The line is out of order, or missing.
-    OutOfOrder(Place),
-    // The text is too long, or there are too many at-lines.
-    TooLong(Place),
+    /// 16: the line may not come there, the end line is missing (then at one past the last line), or an at-line does not come before the
+    /// end.
+    OutOfOrder(Position),
+    /// 17: the text has more than 32,768 bytes, or the line is a 257th at-line.
+    TooLong(Position),
 }
 
+/// The fault of a text that is no sheet.
 #[derive(Clone, Copy, PartialEq, Eq, Debug)]
 pub enum TableFault {
+    /// A fault of its lines, or of their order.
     Sheet(SheetFault),
-    // The duty was refused.
-    Refused(Place, Refusal),
+    /// 1 to 4: a duty that the table refuses, the position of its line, and why.
+    Refused(Position, Refusal),
 }
 
 // Both by hand: a derived `From` has no `from_gives`, by which clauses name the error that `?` makes.
 impl From<FormsFault> for SheetFault {
-    ghost from_gives = { λ e f. sheet_told f ≡ forms_told e };
+    ghost from_gives = { λ e f. sheet_report f ≡ forms_report e };
 
     fn from(e: FormsFault) -> SheetFault {
         SheetFault::Forms(e)
@@ -34,7 +39,7 @@ impl From<FormsFault> for SheetFault {
 }
 
 impl From<SheetFault> for TableFault {
-    ghost from_gives = { λ e f. table_told f ≡ sheet_told e };
+    ghost from_gives = { λ e f. table_report f ≡ sheet_report e };
 
     fn from(e: SheetFault) -> TableFault {
         TableFault::Sheet(e)
@@ -42,21 +47,21 @@ impl From<SheetFault> for TableFault {
 }
 
 impl SheetFault {
-    // The fault as it is told.
+    // The fault's number, line, byte and layer.
     pub(crate) fn report(&self) -> Report
-        ensures { result ≡ sheet_told self.now }
+        ensures { result ≡ sheet_report self.now }
     {
         match *self {
             SheetFault::Forms(fault) => fault.report(),
-            SheetFault::OutOfOrder(place) => Report::new(16, Layer::Sheet, place),
-            SheetFault::TooLong(place) => Report::new(17, Layer::Sheet, place),
+            SheetFault::OutOfOrder(position) => Report::new(16, Layer::Sheet, position),
+            SheetFault::TooLong(position) => Report::new(17, Layer::Sheet, position),
         }
     }
 }
 
 // The row that a refusal names.
-fn row_told(why: Refusal) -> Option<u32>
-    ensures { result ≡ row_told (refusal_code why) }
+fn named_row(why: Refusal) -> Option<u32>
+    ensures { result ≡ named_row (refusal_code why) }
 {
     match why {
         Refusal::Unschedulable(row) => Some(row),
@@ -65,15 +70,15 @@ fn row_told(why: Refusal) -> Option<u32>
 }
 
 impl TableFault {
-    // The fault as it is told: its number, its line and byte, its layer, and the row where the refusal names one.
+    /// The fault's number, line, byte and layer, and the row where the refusal names one.
     pub fn report(&self) -> Report
-        ensures { result ≡ table_told self.now }
+        ensures { result ≡ table_report self.now }
     {
         match *self {
             TableFault::Sheet(fault) => fault.report(),
-            TableFault::Refused(place, why) => Report {
-                row: row_told(why),
-                ..Report::new(why.number(), Layer::Table, place)
+            TableFault::Refused(position, why) => Report {
+                row: named_row(why),
+                ..Report::new(why.number(), Layer::Table, position)
             },
         }
     }

@@ -1,5 +1,5 @@
-// Reading sheets: the lines of a text, in their order, set a table, a queue, at-lines and a number of ticks; or the
-// text has one fault.
+// Reading sheets. The lines of a text, in their order, set a table of duties, a queue, at-lines and a number of ticks; or else the text
+// has one fault that counts.
 #![tactic(auto)]
 
 mod ats;
@@ -11,4 +11,4 @@ mod tests;
 
 pub use ats::{At, Calls};
 pub use faults::{SheetFault, TableFault};
-pub use sheets::{Sheet, read, read_by_rules, sheets_hold};
+pub use sheets::{Sheet, read, read_by_rules, sheets_have_calls};

@@ -1,26 +1,27 @@
-// Sheets: the lines of a text enter a draft one after the other, and a draft with all its lines is a sheet.
+// Sheets, and how they are read: the lines of a text enter a draft one after the other, and a draft that all lines have entered is a sheet
+// if its end line is there and no at-line is late.
 ghost use Rattle.std.specs.Prelude.{◌≡◌, map};
 ghost use Rattle.table.specs.Settings.{table_of};
 ghost use Rattle.forms.specs.Faults.{failing};
 ghost use Rattle.forms.specs.Lines.{lines_left};
 ghost use Rattle.sheet.specs.Ats.{at_of};
-ghost use Rattle.sheet.specs.Laws.{SheetsHold};
+ghost use Rattle.sheet.specs.Laws.{SheetsHaveCalls};
 ghost use Rattle.sheet.specs.Orders.{drafted, lines_judged, nothing_read, so_far};
 ghost use Rattle.sheet.specs.Rules.{ByRules};
-ghost use Rattle.sheet.specs.Sheets.{late, missing_line, outcome, set_by, sheet_of, too_long, whole};
-ghost use Rattle.sheet.specs.Told.{sheet_told, table_told};
+ghost use Rattle.sheet.specs.Sheets.{finished, late, missing_line, outcome, set_by, sheet_of, too_long};
+ghost use Rattle.sheet.specs.Reports.{sheet_report, table_report};
 
 use crate::ats::At;
 use crate::drafts::{Draft, Stage};
 use crate::faults::{SheetFault, TableFault};
 use arrayvec::ArrayVec;
-use forms::{Place, QueueName, Reader};
+use forms::{Position, QueueName, Reader};
 use table::Setting;
 
 // The most at-lines that a sheet may have.
 const MOST_ATS: usize = 256;
 
-// A sheet that was read: the table, the queue, the at-lines in the order of their lines, and the number of ticks.
+/// A sheet that was read: a table of duties, a queue, at-lines in the order of their lines, and a number of ticks.
 #[derive(Drop)]
 pub struct Sheet<'a> {
     pub(crate) setting: Setting,
@@ -30,35 +31,35 @@ pub struct Sheet<'a> {
 }
 
 impl<'a> Sheet<'a> {
-    // The table, for its rows and response times.
+    /// The table, for its duties and response times: at most sixteen duties, each with a response time.
     pub fn setting(&self) -> &Setting
         ensures { table_of result.now ≡ (set_by self.now).table }
     {
         &self.setting
     }
 
-    // The table, to start a dispatcher with.
+    /// The table, to start a dispatcher with.
     pub fn into_setting(self) -> Setting
         ensures { table_of result ≡ (set_by self.entry).table }
     {
         self.setting
     }
 
-    // The queue in which errands wait.
+    /// The queue in which errands wait.
     pub fn queue(&self) -> QueueName
         ensures { result ≡ (set_by self.now).queue }
     {
         self.queue
     }
 
-    // The at-lines, in the order of their lines.
+    /// The at-lines, in the order of their lines: at most 256, each with a clock below the number of ticks.
     pub fn ats(&self) -> &[At<'a>]
         ensures { map at_of result.now ≡ (set_by self.now).ats }
     {
         self.ats.as_slice()
     }
 
-    // The number of ticks.
+    /// The number of ticks of the run: at most 10,000.
     pub fn ticks(&self) -> u32
         ensures { result ≡ (set_by self.now).ticks }
     {
@@ -66,24 +67,24 @@ impl<'a> Sheet<'a> {
     }
 }
 
-// The longest text that is read.
+// The most bytes that a text may have.
 const LONGEST: usize = 32768;
 
 // No at-line is late: each comes before the end.
 fn on_time(ats: &[At], ticks: u32) -> Result<(), SheetFault>
-    ensures { failing sheet_told result ≡ late ticks (map at_of ats.now) }
+    ensures { failing sheet_report result ≡ late ticks (map at_of ats.now) }
 {
     match ats.iter().find(|at| at.clock >= ticks) {
         None => Ok(()),
-        Some(at) => Err(SheetFault::OutOfOrder(at.part.place)),
+        Some(at) => Err(SheetFault::OutOfOrder(at.part.position)),
     }
 }
 
-// One past the last line, at the text's length.
-fn missing_line(text: &[u8]) -> Place
+// Where a missing line would stand: one past the last line, at the text's length.
+fn missing_line(text: &[u8]) -> Position
     ensures { result ≡ missing_line text.now }
 {
-    Place {
+    Position {
         line: 1 + Reader::new(text).count(),
         byte: text.len(),
     }
@@ -91,7 +92,7 @@ fn missing_line(text: &[u8]) -> Place
 
 // The sheet that a draft has become once all lines of its text were read; the end line may be missing.
 fn finished<'a>(draft: Draft<'a>, text: &[u8]) -> Result<Sheet<'a>, SheetFault>
-    ensures { outcome sheet_told result ≡ whole (missing_line text.now) (so_far draft.entry) }
+    ensures { outcome sheet_report result ≡ finished (missing_line text.now) (so_far draft.entry) }
 {
     let Stage::Over = draft.stage else {
         return Err(SheetFault::OutOfOrder(missing_line(text)));
@@ -102,18 +103,18 @@ fn finished<'a>(draft: Draft<'a>, text: &[u8]) -> Result<Sheet<'a>, SheetFault>
 
 // The text is not too long.
 fn short(text: &[u8]) -> Result<(), SheetFault>
-    ensures { failing sheet_told result ≡ too_long text.now }
+    ensures { failing sheet_report result ≡ too_long text.now }
 {
     if text.len() <= LONGEST {
         Ok(())
     } else {
-        Err(SheetFault::TooLong(Place { line: 1, byte: 0 }))
+        Err(SheetFault::TooLong(Position { line: 1, byte: 0 }))
     }
 }
 
 // The draft that every line has entered, or the fault of the first that does not.
 fn entered<'a>(lines: Reader<'a>) -> Result<Draft<'a>, TableFault>
-    ensures { drafted table_told result ≡ lines_judged nothing_read (lines_left lines.entry) }
+    ensures { drafted table_report result ≡ lines_judged nothing_read (lines_left lines.entry) }
 {
     let mut draft = Draft::new();
     for line in lines {
@@ -122,21 +123,21 @@ fn entered<'a>(lines: Reader<'a>) -> Result<Draft<'a>, TableFault>
     Ok(draft)
 }
 
-// The sheet that a text is, or its fault.
+/// The sheet that a text is, or the one fault that counts. The text may hold any bytes. The sheet's at-lines are parts of it.
 pub fn read<'a>(text: &'a [u8]) -> Result<Sheet<'a>, TableFault>
-    ensures { outcome table_told result ≡ sheet_of text.now }
+    ensures { outcome table_report result ≡ sheet_of text.now }
 {
     short(text)?;
     let draft = entered(Reader::new(text))?;
     Ok(finished(draft, text)?)
 }
 
-// A text is read as the rules say: as a sheet, or with the one fault that counts.
+/// The law that a text is read as the rules say: as a sheet, or with the one fault that counts.
 pub fn read_by_rules()
     ensures { ByRules }
 {}
 
-// In every sheet that is read, each at-line has calls, all of which are handed out, and comes before the end.
-pub fn sheets_hold()
-    ensures { SheetsHold }
+/// The law that in every sheet that is read, each at-line has calls, all of which are handed out, and comes before the end.
+pub fn sheets_have_calls()
+    ensures { SheetsHaveCalls }
 {}

@@ -1,6 +1,6 @@
 // A sheet that is read, and a fault of each layer.
 use crate::read;
-use forms::{Items, Layer, Place, Report};
+use forms::{Items, Layer, Position, Report};
 use model::Call;
 use std::test::Fail;
 
@@ -8,14 +8,14 @@ const HARVEST: &[u8] =
     b"(sheet 1)\n(duty 0 1 4 4)\n(duty 1 2 6 6)\n(remark two duties)\n(queue worth)\n(at 0 (release 0) (request 7 3 10))\n(at 4 (release 1))\n(end 5)\n";
 
 // The fault of a text, and nothing where it is a sheet.
-fn told(text: &[u8]) -> Option<Report> {
+fn fault_of(text: &[u8]) -> Option<Report> {
     read(text).err().map(|fault| fault.report())
 }
 
 #[test]
 fn a_sheet_is_read(rt: HostRuntime) -> Result<(), Fail> {
     let sheet = read(HARVEST)?;
-    assert_eq!(rt; sheet.setting().rows().len(), 2);
+    assert_eq!(rt; sheet.setting().duties().len(), 2);
     assert_eq!(rt; sheet.ticks(), 5);
     let ats = sheet.ats();
     assert!(rt; ats.len() == 2);
@@ -26,25 +26,25 @@ fn a_sheet_is_read(rt: HostRuntime) -> Result<(), Fail> {
     assert!(rt; calls.next().is_none());
     let release = Items::new(ats[0].part).nth(2);
     assert!(rt; release.is_some_and(|form| form.bytes == b"(release 0)".as_slice()));
-    assert!(rt; release.is_some_and(|form| form.place == Place { line: 6, byte: 80 }));
+    assert!(rt; release.is_some_and(|form| form.position == Position { line: 6, byte: 80 }));
     Ok(())
 }
 
 #[test]
 fn each_layer_has_faults(rt: HostRuntime) -> Result<(), Fail> {
-    let first = Place { line: 1, byte: 0 };
-    let second = Place { line: 2, byte: 10 };
+    let first = Position { line: 1, byte: 0 };
+    let second = Position { line: 2, byte: 10 };
     let missing = Report::new(16, Layer::Sheet, first);
-    assert!(rt; told(b"") == Some(missing));
-    let letter = Report::new(12, Layer::Letters, Place { line: 1, byte: 6 });
-    assert!(rt; told(b"(sheet\t1)\n") == Some(letter));
+    assert!(rt; fault_of(b"") == Some(missing));
+    let letter = Report::new(12, Layer::Letters, Position { line: 1, byte: 6 });
+    assert!(rt; fault_of(b"(sheet\t1)\n") == Some(letter));
     let no_form = Report::new(13, Layer::Forms, second);
-    assert!(rt; told(b"(sheet 1)\n\n") == Some(no_form));
+    assert!(rt; fault_of(b"(sheet 1)\n\n") == Some(no_form));
     let wrong = Report::new(14, Layer::Forms, first);
-    assert!(rt; told(b"(sheet 2)\n") == Some(wrong));
+    assert!(rt; fault_of(b"(sheet 2)\n") == Some(wrong));
     let large = Report::new(15, Layer::Forms, second);
-    assert!(rt; told(b"(sheet 1)\n(end 10001)\n") == Some(large));
+    assert!(rt; fault_of(b"(sheet 1)\n(end 10001)\n") == Some(large));
     let limits = Report::new(2, Layer::Table, second);
-    assert!(rt; told(b"(sheet 1)\n(duty 0 2 1 4)\n") == Some(limits));
+    assert!(rt; fault_of(b"(sheet 1)\n(duty 0 2 1 4)\n") == Some(limits));
     Ok(())
 }

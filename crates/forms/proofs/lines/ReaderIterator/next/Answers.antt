@@ -6,7 +6,7 @@ pub returns : goal.returns
 returns c =
     let self = c.args.self.now in
     let split =
-    lines_from self.text.now self.place c.line_length-length.result c.min.result (omega arith)
+    lines_from self.text.now self.position c.line_length-length.result c.min.result (omega arith)
     c.line_length-length.ensures.value c.min.ensures in
     record {
       steps =

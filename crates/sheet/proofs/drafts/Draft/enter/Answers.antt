@@ -4,7 +4,7 @@ use Rattle.forms.specs.Lines.{line_of}
 use Rattle.sheet.specs.Orders.{sheet_faults, so_far, table_faults, with_said}
 use Rattle.forms.specs.Sayings.{forms_faults, letters_faults, says}
 use Rattle.sheet.proofs.Judgements.{judged_before}
-use Rattle.sheet.proofs.Lined.{by_table, room_in_place}
+use Rattle.sheet.proofs.Lined.{by_table, room_where_ordered}
 use Rattle.sheet.proofs.drafts.Draft.enter.Goals as goal
 
 pub returns-in_err-said : goal.returns-in_err-said
@@ -18,7 +18,7 @@ returns-in_err-said c =
 pub take-requires : goal.take-requires
 take-requires c =
     let s = so_far c.args.self.now in
-    room_in_place s (line_of c.args.line) c.in_ok-said.said c.in_ok-said.ensures
+    room_where_ordered s (line_of c.args.line) c.in_ok-said.said c.in_ok-said.ensures
 
 pub returns : goal.returns
 returns c =

@@ -4,7 +4,7 @@ use Rattle.forms.specs.Lines.{line_of}
 use Rattle.sheet.specs.Orders.{sheet_faults, so_far}
 use Rattle.forms.specs.Sayings.{forms_faults, letters_faults, says}
 use Rattle.sheet.proofs.Judgements.{judged_before}
-use Rattle.sheet.proofs.Lined.{in_its_place, no_room, out_of_order}
+use Rattle.sheet.proofs.Lined.{in_order_with_room, no_room, out_of_order}
 use Rattle.sheet.proofs.drafts.Draft.ordered.Goals as goal
 
 pub returns-in_err-said : goal.returns-in_err-said
@@ -25,5 +25,5 @@ returns-then-not-has_room c =
 
 pub returns : goal.returns
 returns c =
-    in_its_place (so_far c.args.self.now) (line_of c.args.line) c.in_ok-said.said c.in_ok-said.ensures
+    in_order_with_room (so_far c.args.self.now) (line_of c.args.line) c.in_ok-said.said c.in_ok-said.ensures
     c.if-not-in_order.ensures c.if-not-has_room.ensures
