@@ -1,4 +1,4 @@
-//! The exact slack, three ways: the proved library, the same stretch algorithm in plain Rust, and a reckoning that
+//! The exact slack, three ways: the proved library, the same stretch algorithm in plain Rust, and a search that
 //! tries every number of ticks. All three drive the same tables in the same way, and must give the same sums.
 //!
 //! Without arguments: checks that all answers agree and prints times and ratios.
@@ -32,7 +32,7 @@ fn proved(case: &Case) -> u64 {
     unsafe { bench_drive(bytes.as_ptr(), bytes.len(), case.ticks, case.finish) }
 }
 
-/// Releases, dones and ticks as the library makes them, with a slack to be reckoned before each tick.
+/// Releases, dones and ticks as the library makes them, with the slack asked for before each tick.
 fn drive(case: &Case, slack: fn(&[Duty], &[Row], u64) -> u32) -> u64 {
     let mut rows = vec![Row::Idle { earliest: 0 }; case.duties.len()];
     let mut sum = 0u64;

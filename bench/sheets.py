@@ -7,6 +7,7 @@ sheets that grow.
 Both programs are given each sheet on standard input, and have to write the same, to the byte. Prints for each sheet its bytes and
 ticks, the best of five times of both, the peak memory of the proved one and, where valgrind is at hand, the instructions of both
 (callgrind, the same for every run), with their ratio. Instructions are those of the whole program, start and output included."""
+import argparse
 import os
 import re
 import shutil
@@ -67,7 +68,11 @@ def instructions(program, path):
 
 
 def main():
-    proved, plain = sys.argv[1:3]
+    options = argparse.ArgumentParser(description=__doc__, formatter_class=argparse.RawDescriptionHelpFormatter)
+    options.add_argument("proved", metavar="PROVED", help="the proved program")
+    options.add_argument("plain", metavar="PLAIN", help="the program in plain Rust")
+    given = options.parse_args()
+    proved, plain = given.proved, given.plain
     count = shutil.which("valgrind") is not None
     print("%-30s %7s %7s %9s %9s %7s %9s %12s %12s %7s"
           % ("sheet", "bytes", "ticks", "proved ms", "plain ms", "ratio", "peak KiB", "proved ins", "plain ins", "ratio"))
@@ -88,4 +93,5 @@ def main():
     print("all texts agree")
 
 
-main()
+if __name__ == "__main__":
+    main()

@@ -1,15 +1,16 @@
 #!/usr/bin/env python3
-"""Compares a program with the reckoner on random sheets, valid and damaged, and on sheets at every limit:
+"""Compares a program with tools/reference.py on random sheets, valid and damaged, and on sheets at every limit:
 
     tools/compare.py PROGRAM [COUNT [SEED]]
 
-Each sheet is given to PROGRAM on standard input. What it writes has to be what tools/reckon.py reckons, to the byte, and it
+Each sheet is given to PROGRAM on standard input. What it writes has to be what tools/reference.py says, to the byte, and it
 has to end with status 0. The first sheet on which they differ is printed, and the status is 1."""
+import argparse
 import random
 import subprocess
 import sys
 
-from reckon import reckon
+from reference import transcript
 
 NUMBERS = ["0", "1", "2", "3", "4", "5", "6", "7", "8", "12", "16", "17", "40", "64", "0000000001", "00000000001", "4095", "4096",
            "4097", "9999", "10000", "10001", "65535", "65536", "4294967294", "4294967295", "4294967296", "9999999999",
@@ -184,20 +185,20 @@ def sheets(count, seed):
 
 
 def main():
-    if len(sys.argv) < 2:
-        sys.exit(__doc__)
-    program = sys.argv[1]
-    count = int(sys.argv[2]) if len(sys.argv) > 2 else 2000
-    seed = int(sys.argv[3]) if len(sys.argv) > 3 else 1
+    options = argparse.ArgumentParser(description=__doc__, formatter_class=argparse.RawDescriptionHelpFormatter)
+    options.add_argument("program", metavar="PROGRAM", help="the program that is compared")
+    options.add_argument("count", metavar="COUNT", nargs="?", type=int, default=2000, help="how many random sheets, 2000 unless given")
+    options.add_argument("seed", metavar="SEED", nargs="?", type=int, default=1, help="the seed of the random sheets, 1 unless given")
+    given = options.parse_args()
     tried, faults = 0, {}
-    for text in sheets(count, seed):
-        wanted = reckon(text)
-        run = subprocess.run([program], input=text, capture_output=True)
+    for text in sheets(given.count, given.seed):
+        wanted = transcript(text)
+        run = subprocess.run([given.program], input=text, capture_output=True)
         if run.returncode != 0 or run.stdout != wanted.encode():
             print("they differ on this sheet, status %d:" % run.returncode)
             print(text)
             print("program:", run.stdout[:2000])
-            print("reckoned:", wanted[:2000])
+            print("reference:", wanted[:2000])
             sys.exit(1)
         tried += 1
         kind = wanted.split(" ")[1] if wanted.startswith("(fault") else "none"

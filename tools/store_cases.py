@@ -1,17 +1,24 @@
 #!/usr/bin/env python3
-"""Writes the stored cases of crates/sheet_cases: each sheet below to data/NAME.sheet, and what tools/reckon.py reckons of it
-to data/NAME.text; the names to data/names, and what the program has to write to stdout. The proved program has no part in
-it. Run it from the repository's root after a case is added here.
+"""Writes the stored cases of crates/sheet_cases anew:
 
-A case with two faults comes with a second text, in which the fault that counts is mended: the reckoner has to find the
+    tools/store_cases.py
+
+Each sheet below goes to data/NAME.sheet, and what tools/reference.py says of it to data/NAME.text; the names go to data/names, and
+what the program has to write to stdout. The proved program has no part in it. Run it after a case is added here.
+
+A case with two faults comes with a second text, in which the fault that counts is mended: tools/reference.py has to find the
 other one there. A case with refused calls comes with the refusals that it has to print."""
+import argparse
 import os
 import re
 import shutil
 
-from reckon import reckon
+from reference import transcript
 
-FOLDER = "crates/sheet_cases"
+# Before the cases are made, which takes a while.
+argparse.ArgumentParser(description=__doc__, formatter_class=argparse.RawDescriptionHelpFormatter).parse_args()
+
+FOLDER = os.path.join(os.path.dirname(os.path.abspath(__file__)), "..", "crates", "sheet_cases")
 HEAD = ["(sheet 1)", "(duty 0 1 4 4)", "(duty 1 2 6 6)"]
 QUEUE, ATS, END = "(queue first)", ["(at 0 (release 0) (release 1) (request 7 3 10))", "(at 3 (done 1) (withdraw 7))"], "(end 6)"
 TAIL = [QUEUE] + ATS + [END]
@@ -39,8 +46,8 @@ def at(place, line, lines=PLAIN):
 
 def fault(text):
     """Number and line of the fault that a text has; None for a sheet."""
-    told = re.match(r"\(fault (\d+) (\d+) ", reckon(text))
-    return told and (int(told[1]), int(told[2]))
+    line = re.match(r"\(fault (\d+) (\d+) ", transcript(text))
+    return line and (int(line[1]), int(line[2]))
 
 
 def named(number, name):
@@ -51,13 +58,13 @@ def faulty(number, **sheets):
     """Cases that must have a fault of this number."""
     for name, lines in sheets.items():
         case(named(number, name), lines)
-        told = fault(CASES[named(number, name)])
-        assert told and told[0] == number, (number, name, told)
+        found = fault(CASES[named(number, name)])
+        assert found and found[0] == number, (number, name, found)
 
 
 def refusals(text):
     """The refusals that a sheet's text prints: clock, number and word of each."""
-    return [(int(clock), int(number), word) for clock, number, word in re.findall(r"\(refused (\d+) (\d+) (\w+)\)", reckon(text))]
+    return [(int(clock), int(number), word) for clock, number, word in re.findall(r"\(refused (\d+) (\d+) (\w+)\)", transcript(text))]
 
 
 def valid(name, lines, refused=None):
@@ -145,8 +152,8 @@ SINGLE = {13: (at(3, "(queue first"), 3), 14: (at(3, "(queue last)"), 3), 15: (a
 
 def one_line(first, second, sheet, mended):
     """A case with both faults in one line, the first of which counts; with it mended, the second one does."""
-    told, other = fault(text_of(sheet)), fault(text_of(mended))
-    assert told and other and told[0] == first and other == (second, told[1]), (first, second, told, other)
+    found, other = fault(text_of(sheet)), fault(text_of(mended))
+    assert found and other and found[0] == first and other == (second, found[1]), (first, second, found, other)
     case(named(first, "and_" + WORDS[second]), sheet)
 
 
@@ -180,10 +187,10 @@ REMARK = "(remark)"
 
 def two_lines(first, second, sheet, name=None):
     """A case with a fault in each of two lines; with a remark in place of the line that counts, the other one does."""
-    told = fault(text_of(sheet))
-    assert told and told[0] == first, (first, second, told)
-    other = fault(text_of(at(told[1] - 1, REMARK, sheet)))
-    assert other and other[0] == second and other[1] > told[1], (first, second, told, other)
+    found = fault(text_of(sheet))
+    assert found and found[0] == first, (first, second, found)
+    other = fault(text_of(at(found[1] - 1, REMARK, sheet)))
+    assert other and other[0] == second and other[1] > found[1], (first, second, found, other)
     case(named(first, "before_" + (name or WORDS[second])), sheet)
 
 
@@ -228,8 +235,8 @@ LATE = "(at 6 (release 0))"
 
 def late(number, sheet, mended, name="and_a_late_at_line"):
     """A case with another fault; with it mended, an at-line that is not before the end counts."""
-    told, other = fault(text_of(sheet)), fault(text_of(mended))
-    assert told and told[0] == number and other and other[0] == 16, (number, told, other)
+    found, other = fault(text_of(sheet)), fault(text_of(mended))
+    assert found and found[0] == number and other and other[0] == 16, (number, found, other)
     assert mended[other[1] - 1].startswith("(at "), mended[other[1] - 1]
     case(named(number, name), sheet)
 
@@ -250,9 +257,9 @@ EVERY = ["(sheet 1)", "(remark \x01)", "(duty 0 1 4 4", "(dut 0 1 4 4)", "(duty 
 EVERY += ["(duty 0 1 64 64)", "(duty 1 64 64 64)"] + ["(duty %d 1 64 64)" % n for n in range(1, 16)] + ["(duty 16 1 64 64)"] + sized(32769)[1:]
 short = EVERY[:26]
 for number in (12, 13, 14, 15, 16, 1, 2, 4, 3):
-    told = fault(text_of(short))
-    assert told and told[0] == number, (number, told)
-    short = at(told[1] - 1, REMARK, short)
+    found = fault(text_of(short))
+    assert found and found[0] == number, (number, found)
+    short = at(found[1] - 1, REMARK, short)
 faulty(17, size_above_32768_and_every_other=EVERY)
 late(17, LATE_PLAIN + sized(32769)[2:-1], LATE_PLAIN, "size_above_32768_and_a_late_at_line")
 faulty(17, size_above_32768_and_257th_at_line=at_lines(257) + sized(32769)[2:-1])
@@ -362,7 +369,7 @@ valid("refused_late", HEAD + ["(queue first)"] + ["(at %d (withdraw %d))" % (clo
 for line in (9, 10, 99, 100, 999, 1000, 1001, 3000):
     faulty(13, **{"line_%d" % line: ["(sheet 1)"] + [REMARK] * (line - 2) + ["(remark", "(end 0)"]})
 faulty(12, byte_32765=text_of(sized(32766, ""))[:-1] + b"\x7f\n")
-assert reckon(CASES["fault_12_byte_32765"]).split()[3] == "32765", reckon(CASES["fault_12_byte_32765"])
+assert transcript(CASES["fault_12_byte_32765"]).split()[3] == "32765", transcript(CASES["fault_12_byte_32765"])
 
 
 def main():
@@ -373,7 +380,7 @@ def main():
         with open(os.path.join(data, name + ".sheet"), "wb") as file:
             file.write(text)
         with open(os.path.join(data, name + ".text"), "w") as file:
-            file.write(reckon(text))
+            file.write(transcript(text))
     with open(os.path.join(data, "names"), "w") as file:
         file.writelines(name + "\n" for name in CASES)
     with open(os.path.join(FOLDER, "stdout"), "w") as file:

@@ -1,4 +1,4 @@
-// Stored sheets, each with the text that an independent reckoner gave for it: NAME.sheet and NAME.text for every name in the
+// Stored sheets, each with the text that tools/reference.py says of it: NAME.sheet and NAME.text for every name in the
 // file `names`.
 #![tactic(auto)]
 

@@ -4,19 +4,19 @@ use Rattle.dispatcher.specs.Scripts.{calls_of, trace_of}
 use Rattle.dispatcher.specs.declared.entries.Entry.{Entry}
 use Rattle.model.proofs.Totals.{totals_balance}
 use Rattle.model.specs.Histories.{Chosen}
-use Rattle.model.specs.Machine.{State}
+use Rattle.model.specs.Machine.{State, fresh}
 use Rattle.model.specs.Queues.{Sound, distinct, names_right}
-use Rattle.model.specs.Runs.{Trace, called}
+use Rattle.model.specs.Runs.{Trace, calls_in}
 use Rattle.model.specs.Totals.{total_accepted, total_served, total_units, total_withdrawn}
 use Rattle.model.specs.declared.calls.Call.{Call}
 use Rattle.model.specs.declared.duties.Duty.{Duty}
 use Rattle.model.specs.declared.errands.Errand.{Errand}
 use Rattle.sheet.specs.Sheets.{Set}
 use Rattle.transcript.specs.Renderings.{duty_lines, left_over, run_lines}
-use Rattle.transcript.specs.Schedules.{script_of}
-use Rattle.transcript.specs.Transcripts.{Ran, Transcript, choice_of}
+use Rattle.transcript.specs.Scripts.{script_of}
+use Rattle.transcript.specs.Transcripts.{RunFromEmpty, Transcript, choice_of}
 
-module _ (table : List Duty) (trace : Trace) (end : State) (ran : Ran table trace end) where
+module _ (table : List Duty) (trace : Trace) (end : State) (ran : RunFromEmpty table trace end) where
   pub starts_sound : Sound ran.start
   starts_sound =
       record {
@@ -28,18 +28,18 @@ module _ (table : List Duty) (trace : Trace) (end : State) (ran : Ran table trac
       }
 
   balance : total_accepted trace ≡ total_served trace + total_withdrawn trace + total_units end.queue.waiting
-  balance = omega (arith, totals_balance table ran.start trace end starts_sound ran.promise.follows, ap total_units ran.empty)
+  balance = omega (arith, totals_balance (fresh table ran.start) trace end starts_sound ran.promise.follows, ap total_units ran.empty)
 
   pub left_over_waits : left_over trace ≡ total_units end.queue.waiting
   left_over_waits = omega (arith, balance)
 
-called_script : (script : List Entry) → called (trace_of script) ≡ calls_of script
-called_script [] = refl
-called_script (e ∷ es) = ap (λ (cs : List Call). e.call ∷ cs) (called_script es)
+calls_of_script : (script : List Entry) → calls_in (trace_of script) ≡ calls_of script
+calls_of_script [] = refl
+calls_of_script (e ∷ es) = ap (λ (cs : List Call). e.call ∷ cs) (calls_of_script es)
 
 -- The parts of a transcript, put together.
 pub transcript_of : (s : Set) (script : List Entry) (end : State) (start duties out : List ℕ)
-    → Ran s.table (trace_of script) end
+    → RunFromEmpty s.table (trace_of script) end
     → Chosen (choice_of s.queue) [] (trace_of script)
     → calls_of script ≡ script_of s.ats s.ticks
     → start ≡ []
@@ -52,7 +52,7 @@ transcript_of s script end start duties out ran chosen calls nothing rows run =
       end = end;
       ran = ran;
       chosen = chosen;
-      calls = called_script script ∙ calls;
+      calls = calls_of_script script ∙ calls;
       shows =
           run
           ∙ ap (λ (bs : List ℕ). bs ++ run_lines (trace_of script) (left_over (trace_of script)))

@@ -1,11 +1,12 @@
 -- A fault is printed as it is. The script of a sheet has a run over its table, which is admitted, and so a rendering.
 use Rattle.std.proofs.Common.{◌≡◌, ℕ, true, List, [], Ok, Err, Result, refl, arith}
 use Rattle.model.proofs.Promise.{every_run_keeps_the_promise}
+use Rattle.model.proofs.Spare.{fresh_keeps}
 use Rattle.model.specs.Machine.{fresh}
 use Rattle.model.specs.Queues.{Sound}
 use Rattle.model.specs.Table.{admitted}
-use Rattle.queue.proofs.Naming.{best_names_right, earliest_names_right}
-use Rattle.queue.proofs.Standing.{script_runs_from_empty}
+use Rattle.queue.proofs.Named.{best_names_right, earliest_names_right}
+use Rattle.queue.proofs.QueueAfter.{script_runs_from_empty}
 use Rattle.queue.specs.Arrivals.{best_worth, earliest}
 use Rattle.queue.specs.Scripts.{RunOf}
 use Rattle.forms.specs.Faults.{Fault}
@@ -15,7 +16,7 @@ use Rattle.sheet.specs.Sheets.{Set, sheet_of}
 use Rattle.transcript.specs.Existence.{EveryScriptRuns, ExactlyOneTranscript, empty_queue}
 use Rattle.transcript.specs.Lines.{fault_line}
 use Rattle.transcript.specs.Renderings.{rendered}
-use Rattle.transcript.specs.Schedules.{script_of}
+use Rattle.transcript.specs.Scripts.{script_of}
 use Rattle.transcript.specs.Transcripts.{PrintedOf, Transcript, choice_of}
 use Rattle.transcript.proofs.Settled.{one_transcript}
 
@@ -28,7 +29,7 @@ empty_sound : (places : ℕ) → Sound (empty_queue places)
 empty_sound places = record { each_once = refl; few = omega arith; names = refl }
 
 module _ (s : Set) (ok : admitted s.table ≡ true) where
-  run : RunOf s.table (choice_of s.queue) [] (fresh s.table (empty_queue 64)) (script_of s.ats s.ticks)
+  run : RunOf (choice_of s.queue) [] (fresh s.table (empty_queue 64)) (script_of s.ats s.ticks)
   run = every_script_runs s.table s.queue 64 (script_of s.ats s.ticks)
 
   sheet_printed : Transcript s (rendered s.table run.trace run.end)
@@ -42,7 +43,7 @@ module _ (s : Set) (ok : admitted s.table ≡ true) where
               empty = refl;
               names_none = refl;
               roomy = refl;
-              promise = every_run_keeps_the_promise s.table (empty_queue 64) run.trace run.end ok (empty_sound 64) run.run;
+              promise = every_run_keeps_the_promise (fresh s.table (empty_queue 64)) run.trace run.end (fresh_keeps s.table ok) (empty_sound 64) run.run;
             };
         chosen = run.chosen;
         calls = run.made;

@@ -1,8 +1,7 @@
 pub mod Balanced
-pub mod Clocks
-pub mod Fitting
 mod Existence
-pub mod Growing
-pub mod Inserting
-pub mod Rendered
+pub mod Renderings
+pub mod Scripts
 mod Settled
+pub mod Sizes
+pub mod Timetables

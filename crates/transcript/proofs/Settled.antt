@@ -9,11 +9,11 @@ use Rattle.model.specs.declared.errands.Errand.{Errand}
 use Rattle.forms.specs.Faults.{Fault}
 use Rattle.sheet.specs.Sheets.{Set, sheet_of}
 use Rattle.transcript.specs.Renderings.{duty_lines, left_over, run_lines}
-use Rattle.transcript.specs.Transcripts.{OneTranscript, PrintedOf, Ran, Transcript, choice_of}
+use Rattle.transcript.specs.Transcripts.{OneTranscript, PrintedOf, RunFromEmpty, Transcript, choice_of}
 use Rattle.transcript.proofs.Balanced.{left_over_waits, starts_sound}
 
 -- Two runs of a table begin over the same queue.
-one_start : (table : List Duty) (trace trace' : Trace) (end end' : State) (ran : Ran table trace end) (ran' : Ran table trace' end') →
+one_start : (table : List Duty) (trace trace' : Trace) (end end' : State) (ran : RunFromEmpty table trace end) (ran' : RunFromEmpty table trace' end') →
     ran'.start ≡ ran.start
 one_start table trace trace' end end' ran ran' =
     ap (λ (es : List Errand). record { waiting = es; named = ran'.start.named; places = ran'.start.places }) (ran'.empty ∙ sym ran.empty)
@@ -24,9 +24,9 @@ one_start table trace trace' end end' ran ran' =
 
 one_trace : (s : Set) (out out' : List ℕ) (t : Transcript s out) (t' : Transcript s out') → t.trace ≡ t'.trace
 one_trace s out out' t t' =
-    choice_settles_runs s.table t.ran.start (choice_of s.queue) [] t.trace t'.trace t.end t'.end
+    choice_settles_runs (fresh s.table t.ran.start) (choice_of s.queue) [] t.trace t'.trace t.end t'.end
     (starts_sound s.table t.trace t.end t.ran) t.ran.promise.follows
-    (subst (λ (m : Meaning). Run s.table (fresh s.table m) t'.trace t'.end)
+    (subst (λ (m : Meaning). Run (fresh s.table m) t'.trace t'.end)
     (one_start s.table t.trace t'.trace t.end t'.end t.ran t'.ran) t'.ran.promise.follows)
     t.chosen t'.chosen (t.calls ∙ sym t'.calls)
 

@@ -8,22 +8,22 @@ use Rattle.queue.specs.Scripts.{RunOf}
 use Rattle.forms.specs.declared.sayings.QueueName.{QueueName}
 use Rattle.transcript.specs.Transcripts.{Printed, choice_of}
 
--- A queue of so many places in which nothing waits.
+-- A queue with room for so many errands, in which nothing waits.
 abbrev pub empty_queue : ℕ → Meaning
 empty_queue places = record { waiting = []; named = None; places = places }
 
--- Every script has a run, whichever of its calls are refused: over every table, from the fresh state over an empty queue of so many
--- places, there is one in which each tick that an errand has goes by the choice of the queue of this name.
+-- Every script has a run, whichever of its calls are refused: over every table, from the fresh state over an empty queue with room for
+-- so many errands, there is one in which each tick that an errand has goes by the choice of the queue of this name.
 abbrev pub EveryScriptRuns : Type 0
 EveryScriptRuns =
     (table : List Duty) (queue : QueueName) (places : ℕ) (script : List Call)
-    → RunOf table (choice_of queue) [] (fresh table (empty_queue places)) script
+    → RunOf (choice_of queue) [] (fresh table (empty_queue places)) script
 
 -- What is printed of a text: it is, and whatever else is printed of the text is the same.
-pub record Prints (text out : List ℕ) : Type 0 where
+pub record PrintedOnly (text out : List ℕ) : Type 0 where
   pub printed : Printed text out
   pub only : (other : List ℕ) → Printed text other → other ≡ out
 
 -- Every text has a transcript, and only one.
 abbrev pub ExactlyOneTranscript : Type 0
-ExactlyOneTranscript = (text : List ℕ) → (out : List ℕ) × Prints text out
+ExactlyOneTranscript = (text : List ℕ) → (out : List ℕ) × PrintedOnly text out

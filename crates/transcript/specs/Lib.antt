@@ -1,7 +1,7 @@
 pub mod Existence
 pub mod Lines
 pub mod Renderings
-pub mod Schedules
+pub mod Scripts
 pub mod Sizes
-pub mod Timings
+pub mod Timetables
 pub mod Transcripts

@@ -1,9 +1,9 @@
 -- The lines of a transcript, as bytes. Each ends with byte 10.
 use Rattle.std.specs.Prelude.{ℕ, List, [], ◌++◌, Some, None, Option, codes, decimal, slice_index}
-use Rattle.model.specs.Refusals.{told}
+use Rattle.model.specs.Refusals.{refusal_code}
 use Rattle.model.specs.Words.{had_by}
 use Rattle.model.specs.declared.calls.Answer.{Answer}
-use Rattle.model.specs.declared.calls.Answer.TheVariants.{Accepted, Withdrawn, Slack as SlackIs, Ticked, Refused}
+use Rattle.model.specs.declared.calls.Answer.TheVariants.{Ticked, Refused}
 use Rattle.model.specs.declared.calls.Call.{Call}
 use Rattle.model.specs.declared.calls.Call.TheVariants.{Release, Done, Request, Withdraw, Slack, Tick}
 use Rattle.model.specs.declared.calls.Who.{Who}
@@ -35,15 +35,13 @@ abbrev pub tick_line : ℕ → ℕ → Who → List ℕ
 tick_line clock slack who =
     codes "(tick " ++ (decimal clock ++ (codes " " ++ (decimal slack ++ (codes " " ++ (had_by who ++ codes ")\n")))))
 
--- What is printed of a call and its answer at a clock: a refusal or a tick has a line, and what was accepted has none.
+-- What is printed of a call and its answer at a clock: a tick or a refusal has a line, and every other answer has none.
 abbrev pub event_line : ℕ → Call → Answer → List ℕ
-event_line clock call Accepted = []
-event_line clock call (Withdrawn units) = []
-event_line clock call (SlackIs k) = []
 event_line clock call (Ticked slack who) = tick_line clock slack who
-event_line clock call (Refused why) = refused_line clock (slice_index (told why) 0) call
+event_line clock call (Refused why) = refused_line clock (slice_index (refusal_code why) 0) call
+event_line clock call answer = []
 
--- `WITHDRAWN WAITING)`
+-- `WITHDRAWN WAITING)`, the end of a line of totals
 abbrev pub last_totals : ℕ → ℕ → List ℕ
 last_totals withdrawn waiting = decimal withdrawn ++ (codes " " ++ (decimal waiting ++ codes ")\n"))
 
@@ -52,10 +50,11 @@ abbrev pub totals_line : ℕ → ℕ → ℕ → ℕ → List ℕ
 totals_line accepted served withdrawn waiting =
     codes "(totals " ++ (decimal accepted ++ (codes " " ++ (decimal served ++ (codes " " ++ last_totals withdrawn waiting))))
 
--- `LINE BYTE`
-abbrev pub place_words : ℕ → ℕ → List ℕ
-place_words line byte = decimal line ++ (codes " " ++ decimal byte)
+-- `LINE BYTE`, the position of a fault
+abbrev pub position_words : ℕ → ℕ → List ℕ
+position_words line byte = decimal line ++ (codes " " ++ decimal byte)
 
+-- The layer that finds a fault, by its word.
 abbrev pub layer_word : Layer → List ℕ
 layer_word Letters = codes "letters"
 layer_word Forms = codes "forms"
@@ -72,4 +71,4 @@ abbrev pub fault_line : Fault → List ℕ
 fault_line f =
     codes "(fault "
     ++ (decimal f.number
-    ++ (codes " " ++ (place_words f.line f.byte ++ (codes " " ++ (layer_word f.layer ++ behind_layer f.row)))))
+    ++ (codes " " ++ (position_words f.line f.byte ++ (codes " " ++ (layer_word f.layer ++ behind_layer f.row)))))

@@ -1,7 +1,7 @@
 -- How large a sheet that is read can be. By these numbers the memory of a run can be taken before its text is known.
 use Rattle.std.specs.Prelude.{◌≡◌, ℕ, ◌≤◌, List, length, Ok}
 use Rattle.sheet.specs.Sheets.{Set, sheet_of}
-use Rattle.transcript.specs.Schedules.{script_of}
+use Rattle.transcript.specs.Scripts.{script_of}
 
 -- The script of every sheet that is read has at most 42,768 calls: those of its at-lines and its ticks. A text has at most 32,768
 -- bytes, each call has bytes of its own, and no at-line comes into the script twice; and there are at most 10,000 ticks.

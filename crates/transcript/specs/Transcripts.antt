@@ -1,10 +1,10 @@
 -- What is printed of a text: its fault, or the rendering of a run of the sheet that it is.
 use Rattle.std.specs.Prelude.{◌≡◌, ℕ, List, [], None, Ok, Err, Result}
 use Rattle.model.specs.Histories.{Choice, Chosen}
-use Rattle.model.specs.Machine.{State}
+use Rattle.model.specs.Machine.{State, fresh}
 use Rattle.model.specs.Promise.{Promise}
 use Rattle.model.specs.Queues.{Meaning}
-use Rattle.model.specs.Runs.{Trace, called}
+use Rattle.model.specs.Runs.{Trace, calls_in}
 use Rattle.model.specs.declared.duties.Duty.{Duty}
 use Rattle.queue.specs.Arrivals.{best_worth, earliest}
 use Rattle.sheet.specs.Sheets.{Set, sheet_of}
@@ -13,16 +13,16 @@ use Rattle.forms.specs.declared.sayings.QueueName.{QueueName}
 use Rattle.forms.specs.declared.sayings.QueueName.TheVariants.{First, Worth}
 use Rattle.transcript.specs.Lines.{fault_line}
 use Rattle.transcript.specs.Renderings.{rendered}
-use Rattle.transcript.specs.Schedules.{script_of}
+use Rattle.transcript.specs.Scripts.{script_of}
 
 -- A trace over a table is that of a run, with all that is promised of one, from the fresh state over a queue in which
--- nothing waits, that names nobody and that has 64 places.
-pub record Ran (table : List Duty) (trace : Trace) (end : State) : Type 0 where
+-- nothing waits, that names nobody and that has room for 64 errands.
+pub record RunFromEmpty (table : List Duty) (trace : Trace) (end : State) : Type 0 where
   pub start : Meaning
   pub empty : start.waiting ≡ []
   pub names_none : start.named ≡ None
   pub roomy : start.places ≡ 64
-  pub promise : Promise table start trace end
+  pub promise : Promise (fresh table start) trace end
 
 -- The choice of a queue by its name: of the errands that wait, `first` serves the one that was put earliest, and `worth` the one
 -- with the most worth for the units that it was put with, on a tie the one that was put earlier.
@@ -35,9 +35,9 @@ choice_of Worth = best_worth
 pub record Transcript (s : Set) (out : List ℕ) : Type 0 where
   pub trace : Trace
   pub end : State
-  pub ran : Ran s.table trace end
+  pub ran : RunFromEmpty s.table trace end
   pub chosen : Chosen (choice_of s.queue) [] trace
-  pub calls : called trace ≡ script_of s.ats s.ticks
+  pub calls : calls_in trace ≡ script_of s.ats s.ticks
   pub shows : out ≡ rendered s.table trace end
 
 abbrev pub PrintedOf : Result Set Fault → List ℕ → Type 0

@@ -1,10 +1,11 @@
-// The line of a text that is no sheet.
+// The line that is printed of a text that is no sheet.
 ghost use Rattle.std.specs.Prelude.{◌≡◌, ◌+◌, ◌≤◌, ◌++◌, length, string_bytes, string_capacity, string_len};
-ghost use Rattle.transcript.specs.Lines.{behind_layer, fault_line, layer_word, place_words};
+ghost use Rattle.transcript.specs.Lines.{behind_layer, fault_line, layer_word, position_words};
 
-use crate::pushing::{push, push_number};
+use crate::text::{push, push_number};
 use forms::{Layer, Report};
 
+// The layer that finds a fault, by its word.
 fn layer_word(layer: Layer) -> &'static str
     ensures word { result.now ≡ layer_word layer }
     ensures short { length result.now ≤ 7 }
@@ -17,10 +18,10 @@ fn layer_word(layer: Layer) -> &'static str
     }
 }
 
-// A line and a byte.
-fn push_place(out: &mut String, line: usize, byte: usize)
+// A position: a line and a byte.
+fn push_position(out: &mut String, line: usize, byte: usize)
     requires room { string_len out.old + 41 ≤ string_capacity out.old }
-    ensures bytes { string_bytes out.new ≡ string_bytes out.old ++ place_words line byte }
+    ensures bytes { string_bytes out.new ≡ string_bytes out.old ++ position_words line byte }
     ensures grown { string_len out.new ≤ string_len out.old + 41 }
     ensures kept { string_capacity out.old ≤ string_capacity out.new }
 {
@@ -43,7 +44,7 @@ fn push_behind_layer(out: &mut String, row: Option<u32>)
     push(out, ")\n");
 }
 
-// A fault, in a line.
+// The line of a fault.
 pub(crate) fn push_fault(out: &mut String, fault: &Report)
     requires room { string_len out.old + 192 ≤ string_capacity out.old }
     ensures { string_bytes out.new ≡ string_bytes out.old ++ fault_line fault.now }
@@ -51,7 +52,7 @@ pub(crate) fn push_fault(out: &mut String, fault: &Report)
     push(out, "(fault ");
     push_number(out, u64::from(fault.number));
     push(out, " ");
-    push_place(out, fault.line, fault.byte);
+    push_position(out, fault.line, fault.byte);
     push(out, " ");
     push(out, layer_word(fault.layer));
     push_behind_layer(out, fault.row);

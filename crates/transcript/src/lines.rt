@@ -7,7 +7,7 @@ ghost use Rattle.dispatcher.specs.Scripts.{trace_of};
 ghost use Rattle.transcript.specs.Lines.{call_word, duty_line, event_line};
 ghost use Rattle.transcript.specs.Renderings.{duty_lines, event_lines};
 
-use crate::pushing::{push, push_number};
+use crate::text::{push, push_number};
 use dispatcher::Entry;
 use model::{Answer, Call, Who};
 use table::Setting;
@@ -98,7 +98,7 @@ pub(crate) fn push_duties(out: &mut String, setting: &Setting)
     ensures grown { string_len out.new ≤ string_len out.old + 96 * length (table_of setting.now) }
     ensures kept { string_capacity out.old ≤ string_capacity out.new }
 {
-    let rows = setting.rows().len() as u32;
+    let rows = setting.duties().len() as u32;
     for row in 0..rows {
         // No row of a setting lacks one.
         let response = setting.response(row).unwrap();

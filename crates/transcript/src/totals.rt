@@ -5,7 +5,7 @@ ghost use Rattle.model.specs.Totals.{total_accepted, total_served, total_withdra
 ghost use Rattle.transcript.specs.Lines.{last_totals, totals_line};
 ghost use Rattle.transcript.specs.Renderings.{accepted_by, served_by, withdrawn_by};
 
-use crate::pushing::{push, push_total};
+use crate::text::{push, push_total};
 use dispatcher::Entry;
 use model::{Answer, Call, Who};
 

@@ -3,11 +3,11 @@ ghost use Rattle.std.specs.Prelude.{◌≡◌, ◌+◌, ◌*◌, ◌≤◌, [], 
 ghost use Rattle.dispatcher.specs.Scripts.{trace_of};
 ghost use Rattle.sheet.specs.Sheets.{set_by};
 ghost use Rattle.transcript.specs.Renderings.{left_over, run_lines};
-ghost use Rattle.transcript.specs.Schedules.{script_of};
-ghost use Rattle.transcript.specs.Transcripts.{OneTranscript, Transcript};
+ghost use Rattle.transcript.specs.Scripts.{script_of};
+ghost use Rattle.transcript.specs.Transcripts.{Transcript};
 
 use crate::lines::{push_duties, push_events};
-use crate::running::answer;
+use crate::runs::run_sheet;
 use crate::totals::{Totals, push_totals};
 use dispatcher::Entry;
 use sheet::Sheet;
@@ -31,11 +31,6 @@ pub(crate) fn push_transcript(script: &mut Vec<Entry>, out: &mut String, sheet: 
     ensures { Transcript (set_by sheet.entry) (string_bytes out.new) }
 {
     push_duties(out, sheet.setting());
-    answer(script, sheet);
+    run_sheet(script, sheet);
     push_run(out, script.as_slice())
 }
-
-// What is printed of a text is settled by the text.
-pub fn one_transcript()
-    ensures { OneTranscript }
-{}

@@ -1,7 +1,7 @@
 use Rattle.std.proofs.Common.{ℕ, string_bytes, Result, arith, subst}
 use Rattle.model.specs.declared.refusals.Refusal.{Refusal}
 use Rattle.table.specs.Settings.{Responds, table_of}
-use Rattle.transcript.proofs.Rendered.{duty_more}
+use Rattle.transcript.proofs.Renderings.{duty_more}
 use Rattle.transcript.proofs.lines.push_duties.Goals as goal
 
 pub loop-row-preserved : goal.loop-row-preserved

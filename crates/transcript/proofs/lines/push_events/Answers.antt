@@ -3,8 +3,7 @@ use Rattle.dispatcher.proofs.Scripted.{no_entry}
 use Rattle.dispatcher.specs.Scripts.{trace_of}
 use Rattle.transcript.specs.Lines.{event_line}
 use Rattle.transcript.specs.Renderings.{event_lines}
-use Rattle.transcript.proofs.Growing.{part_more}
-use Rattle.transcript.proofs.Rendered.{at_most_one, events_all, events_more}
+use Rattle.transcript.proofs.Renderings.{at_most_one, events_all, events_more, part_more}
 use Rattle.transcript.proofs.lines.push_events.Goals as goal
 
 pub loop-entry-preserved : goal.loop-entry-preserved

@@ -1,6 +1,6 @@
 use Rattle.std.proofs.Common.{sym, arith}
 use Rattle.sheet.specs.Sheets.{set_by}
-use Rattle.transcript.proofs.Fitting.{scripts_fit}
+use Rattle.transcript.proofs.Sizes.{scripts_fit}
 use Rattle.transcript.proofs.room.Room.transcript.Goals as goal
 
 pub push_transcript-requires-clause-calls : goal.push_transcript-requires-clause-calls

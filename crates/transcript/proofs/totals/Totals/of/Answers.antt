@@ -1,7 +1,7 @@
 use Rattle.std.proofs.Common.{◌<◌, ◌≤◌, cond, length, arith}
 use Rattle.model.specs.Runs.{given_back, of_tick, was_accepted}
 use Rattle.model.specs.Totals.{any_errand_had, asked}
-use Rattle.transcript.proofs.Rendered.{total_all, total_more}
+use Rattle.transcript.proofs.Renderings.{total_all, total_more}
 use Rattle.transcript.proofs.totals.Totals.of.Goals as goal
 
 pub loop-entry-preserved : goal.loop-entry-preserved

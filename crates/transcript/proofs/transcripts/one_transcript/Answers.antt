@@ -1,5 +1,0 @@
-use Rattle.transcript.proofs.Settled.{one_transcript}
-use Rattle.transcript.proofs.transcripts.one_transcript.Goals as goal
-
-pub returns : goal.returns
-returns c = one_transcript
