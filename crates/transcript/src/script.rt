@@ -3,7 +3,7 @@
 ghost use Rattle.std.specs.Prelude.{◌≡◌, ◌+◌, ◌≤◌, [], ◌++◌, length, map, vec_capacity};
 ghost use Rattle.std.specs.List.{flat_map};
 ghost use Rattle.dispatcher.specs.Scripts.{calls_of};
-ghost use Rattle.sheet.specs.Ats.{at_of, calls_of as calls_at};
+ghost use Rattle.sheet.specs.Ats.{at_of, calls_at};
 ghost use Rattle.transcript.specs.Scripts.{script_of};
 ghost use Rattle.transcript.specs.Timetables.{InOrder, behind_due, due, lines_of};
 
