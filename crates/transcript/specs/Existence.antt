@@ -14,7 +14,7 @@ EveryScriptRuns =
     (table : List Duty) (queue : QueueName) (places : ℕ) (script : List Call)
     → RunOf (choice_of queue) [] (fresh table (empty_queue places)) script
 
--- What is printed of a text: it is, and whatever else is printed of the text is the same.
+-- It is printed of the text, and whatever is printed of the text is the same.
 pub record PrintedOnly (text out : List ℕ) : Type 0 where
   pub printed : Printed text out
   pub only : (other : List ℕ) → Printed text other → other ≡ out

@@ -5,6 +5,7 @@ use Rattle.model.specs.declared.calls.Call.{Call}
 use Rattle.model.specs.declared.calls.Call.TheVariants.{Tick}
 use Rattle.sheet.specs.Ats.{AtLine, calls_at}
 
+-- Whether an at-line names a clock.
 abbrev pub is_at : ℕ → AtLine → Bool
 is_at clock a = a.clock == clock
 
