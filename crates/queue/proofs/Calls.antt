@@ -17,7 +17,7 @@ use Rattle.model.specs.declared.refusals.Refusal.TheVariants.{NotWaiting}
 use Rattle.list.specs.Held.{held, free_slots, some_same_rank, Becomes, Inserts, Removes, Replaces}
 use Rattle.list.specs.Order.{same_rank}
 use Rattle.list.specs.declared.ordered.OrderedList.{OrderedList}
-use Rattle.queue.specs.Lists.{errands, first_number, free_after, list_meaning, numbered, place_of, with_last_unit}
+use Rattle.queue.specs.Lists.{errands, first_number, free_after, list_meaning, has_number, place_of, with_last_unit}
 use Rattle.queue.specs.Ranks.{ranks}
 use Rattle.queue.specs.Slots.{with_units}
 use Rattle.queue.specs.declared.slots.Slot.{Slot}
@@ -32,8 +32,8 @@ first_some [] s h = cc
 first_some (x ∷ ss) s h = let same : x ≡ s = cc in ap (λ y. y ∷ ss) same
 
 -- It is the one found by its number.
-first_found : (ss : List Slot) (s : Slot) → ss ≡ s ∷ drop 1 ss → find (numbered s.errand.number) ss ≡ Some s
-first_found ss s was = ap (find (numbered s.errand.number)) was ∙ cond-true _ _ _ (eq-eqb s.errand.number _ refl)
+first_found : (ss : List Slot) (s : Slot) → ss ≡ s ∷ drop 1 ss → find (has_number s.errand.number) ss ≡ Some s
+first_found ss s was = ap (find (has_number s.errand.number)) was ∙ cond-true _ _ _ (eq-eqb s.errand.number _ refl)
 
 -- A put of an errand whose number waits is refused 9.
 pub put_waits : {R : _} (X : Type 0) (l : OrderedList Slot R) (e : Errand) (why : Refusal) → errand_within e ≡ true →
@@ -185,12 +185,12 @@ pub once_spent : {R : _} (l m : OrderedList Slot R) (n : ℕ) → UnitSpent l n 
 once_spent l m n done = done.spends.1.2.sound.each_once
 
 -- The slots without the one at the place of a number are those without the number.
-without_place : (n : ℕ) (ss : List Slot) → remove ss (position_or_len (numbered n) ss) ≡ without n ss
+without_place : (n : ℕ) (ss : List Slot) → remove ss (position_or_len (has_number n) ss) ≡ without n ss
 without_place n [] = refl
 without_place n (s ∷ ss) =
-    let next : 1 + position_or_len (numbered n) ss ≡ suc (position_or_len (numbered n) ss) = omega arith in
+    let next : 1 + position_or_len (has_number n) ss ≡ suc (position_or_len (has_number n) ss) = omega arith in
     elim (eqb s.errand.number n)
-    as (λ b. remove (s ∷ ss) (cond (not b) (1 + position_or_len (numbered n) ss) 0) ≡ cond b ss (s ∷ without n ss))
+    as (λ b. remove (s ∷ ss) (cond (not b) (1 + position_or_len (has_number n) ss) 0) ≡ cond b ss (s ∷ without n ss))
     [ true ↦ refl | false ↦ rw next (ap (λ xs. s ∷ xs) (without_place n ss)) ]
 
 -- An errand was taken: what the list means now, which slots it holds, and which are free.
@@ -211,10 +211,10 @@ pub errand_taken : {R : _} (l m : OrderedList Slot R) {n i : ℕ} {s : Slot} {e 
 errand_taken l m {n} {i} {s} {e} here removed =
     let place = here.place in
     let is = here.errand in
-    let within = (position-Some (numbered n) (held l) i s place).0 in
+    let within = (position-Some (has_number n) (held l) i s place).0 in
     let at : slice_get (held l) i ≡ Some s = slice_get_read (held l) (length (held l)) i s refl within here.read in
     let done : Becomes l (remove (held l) i) (s ∷ free_slots l) m = subst (λ o. Removes l i o m) at removed in
-    let found : find (numbered n) (held l) ≡ Some s = found_at n (held l) i place ∙ at in
+    let found : find (has_number n) (held l) ≡ Some s = found_at n (held l) i place ∙ at in
     let waits : look (errands (held l)) n ≡ Some s.errand = look_is_found n (held l) ∙ ap (option_map (λ x. x.errand)) found in
     record {
       takes = subst (λ k. Take (list_meaning l) n (Ok k.units) (list_meaning m)) (sym is) (

@@ -7,7 +7,7 @@ use Rattle.std.proofs.lemmas.List.Folds.{find_at}
 use Rattle.std.proofs.lemmas.Bool.{and_from, and_parts, not-true, not_from_false, cond-false, cond-true, cond_both, eqb-true, cases_Bool}
 use Rattle.model.specs.Queues.{look, distinct, errand_within}
 use Rattle.model.specs.declared.errands.Errand.{Errand}
-use Rattle.queue.specs.Lists.{errands, numbered, place_of}
+use Rattle.queue.specs.Lists.{errands, has_number, place_of}
 use Rattle.queue.specs.declared.slots.Slot.{Slot}
 
 pub none_from_test : {X : Type 0} (o : Option X) → is_some o ≡ false → o ≡ None
@@ -23,34 +23,34 @@ look_number (x ∷ es) n e h =
     (λ f. look_number es n e (sym (cond-false _ (Some x) (look es n) f) ∙ h)) (cases_Bool (eqb x.number n))
 
 -- A number has a place among the slots exactly when it waits.
-waits_behind : (n i : ℕ) (ss : List Slot) → is_some (position_from (numbered n) i ss) ≡ is_some (look (errands ss) n)
+waits_behind : (n i : ℕ) (ss : List Slot) → is_some (position_from (has_number n) i ss) ≡ is_some (look (errands ss) n)
 waits_behind n i [] = refl
 waits_behind n i (s ∷ ss) =
     elim (eqb s.errand.number n)
     as (λ b.
-    is_some (cond b (Some i) (position_from (numbered n) (i + 1) ss)) ≡ is_some (cond b (Some s.errand) (look (errands ss) n)))
+    is_some (cond b (Some i) (position_from (has_number n) (i + 1) ss)) ≡ is_some (cond b (Some s.errand) (look (errands ss) n)))
     [ true ↦ refl | false ↦ waits_behind n (i + 1) ss ]
 
 pub waits_somewhere : (n : ℕ) (ss : List Slot) → is_some (place_of n ss) ≡ is_some (look (errands ss) n)
-waits_somewhere n ss = ap is_some (position_from-zero (numbered n) ss) ∙ waits_behind n 0 ss
+waits_somewhere n ss = ap is_some (position_from-zero (has_number n) ss) ∙ waits_behind n 0 ss
 
 pub waits_nowhere : (n : ℕ) (ss : List Slot) → is_some (place_of n ss) ≡ false → look (errands ss) n ≡ None
 waits_nowhere n ss h = none_from_test _ (sym (waits_somewhere n ss) ∙ h)
 
 -- The slot of a number is the one at its place.
-pub place_is : (n : ℕ) (ss : List Slot) (i : ℕ) → place_of n ss ≡ Some i → position_or_len (numbered n) ss ≡ i
+pub place_is : (n : ℕ) (ss : List Slot) (i : ℕ) → place_of n ss ≡ Some i → position_or_len (has_number n) ss ≡ i
 place_is n ss i =
-    let first = position_or_len (numbered n) ss in
+    let first = position_or_len (has_number n) ss in
     cond_both (nat_lt first (length ss)) (Some first) None (λ o. o ≡ Some i → first ≡ i) (λ _ h. cc) (λ _ h. cc)
 
-pub found_at : (n : ℕ) (ss : List Slot) (i : ℕ) → place_of n ss ≡ Some i → find (numbered n) ss ≡ slice_get ss i
-found_at n ss i at = find_at (numbered n) ss ∙ ap (slice_get ss) (place_is n ss i at)
+pub found_at : (n : ℕ) (ss : List Slot) (i : ℕ) → place_of n ss ≡ Some i → find (has_number n) ss ≡ slice_get ss i
+found_at n ss i at = find_at (has_number n) ss ∙ ap (slice_get ss) (place_is n ss i at)
 
-pub look_is_found : (n : ℕ) (ss : List Slot) → look (errands ss) n ≡ option_map (λ s. s.errand) (find (numbered n) ss)
+pub look_is_found : (n : ℕ) (ss : List Slot) → look (errands ss) n ≡ option_map (λ s. s.errand) (find (has_number n) ss)
 look_is_found n [] = refl
 look_is_found n (s ∷ ss) =
     elim (eqb s.errand.number n)
-    as (λ b. cond b (Some s.errand) (look (errands ss) n) ≡ option_map (λ x. x.errand) (cond b (Some s) (find (numbered n) ss)))
+    as (λ b. cond b (Some s.errand) (look (errands ss) n) ≡ option_map (λ x. x.errand) (cond b (Some s) (find (has_number n) ss)))
     [ true ↦ refl | false ↦ look_is_found n ss ]
 
 -- What the fact that each errand is within its limits and waits once says of the first.

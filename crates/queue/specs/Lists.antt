@@ -25,12 +25,12 @@ list_meaning l =
     record { waiting = errands (held l); named = first_number (errands (held l)); places = capacity l }
 
 -- The slot holds the errand of a number.
-abbrev pub numbered : ℕ → Slot → Bool
-numbered n s = s.errand.number == n
+abbrev pub has_number : ℕ → Slot → Bool
+has_number n s = s.errand.number == n
 
 -- The place of the errand of a number, if it waits.
 abbrev pub place_of : ℕ → List Slot → Option ℕ
-place_of n = position (numbered n)
+place_of n = position (has_number n)
 
 -- A slot whose errand has its last unit, if there is such a slot.
 abbrev pub with_last_unit : Option Slot → Option Slot
@@ -41,19 +41,20 @@ with_last_unit (Some s) = cond (nat_le s.errand.units 1) (Some s) None
 -- free slot. The slot of an errand that is taken, or whose last unit is spent, is the first free slot from then on, as it was.
 abbrev pub freed : List Slot → List Slot → Event → List Slot
 freed list free (was_put e) = drop 1 free
-freed list free (was_spent n) = cons_option (with_last_unit (find (numbered n) list)) free
-freed list free (was_taken n) = cons_option (find (numbered n) list) free
+freed list free (was_spent n) = cons_option (with_last_unit (find (has_number n) list)) free
+freed list free (was_taken n) = cons_option (find (has_number n) list) free
 
 -- The free slots after a call, from what it added to the history: one event, or none, where they stay as they are.
 abbrev pub free_after : List Slot → List Slot → History → List Slot
 free_after list free [] = free
 free_after list free (x ∷ xs) = freed list free x
 
--- What a list means is sound if no number is in it twice and every errand is within its limits.
+-- The number of the first errand is right to name.
 first_named : (es : List Errand) → names_right es (first_number es) ≡ true
 first_named [] = refl
 first_named (e ∷ es) = ap (λ b. is_some (cond b (Some e) (look es e.number))) (eq-eqb e.number e.number refl)
 
+-- What a list means is sound if no number is in it twice and every errand is within its limits.
 pub list_sound : {R : _} (l : OrderedList Slot R) → distinct (errands (held l)) ≡ true → Sound (list_meaning l)
 list_sound l once =
     record {
