@@ -1,4 +1,5 @@
--- A script that is carried out call by call.
+-- A script that is carried out call by call: what each call adds to the run, to the trace of the script, and to what is known
+-- of the queue.
 use Rattle.std.proofs.Common.{◌≡◌, ℕ, ◌+◌, ◌<◌, List, [], ◌∷◌, ◌++◌, length, get_or, take, set, sym, refl, ap, ◌∙◌, subst}
 use Rattle.std.proofs.lemmas.List.{get_or-map, map_push, map-set, set-get_or, take_more_set}
 use Rattle.model.specs.Histories.{by_call, history}
@@ -23,31 +24,31 @@ both_empty : {A : Type 0} (xs ys : List A) → xs ++ ys ≡ [] → (xs ≡ []) �
 both_empty [] ys none = (refl, none)
 both_empty (x ∷ xs) ys none = cc
 
--- One call more of a queue that is left call by call.
-pub left_more : {Q : Type 0} (u : Q → Q → Type 0) (q q' q'' : Q) (trace : Trace) (call : Call) (answer : Answer)
-    → LeftAlong u q trace q'
-    → Leaves (LeftBy u call) q' (by_call call answer) q''
-    → LeftAlong u q (trace ++ (call, answer) ∷ []) q''
-left_more u q q' q'' [] call answer same next =
-    (q'', subst (λ k. Leaves (LeftBy u call) k (by_call call answer) q'') same next, refl)
-left_more u q q' q'' (x ∷ trace) call answer (between, first, rest) next =
-    (between, first, left_more u between q' q'' trace call answer rest next)
+module _ {Q : Type 0} (u : Q → Q → Type 0) where
+  -- One call more of a queue that is left call by call.
+  pub left_more : (q q' q'' : Q) (trace : Trace) (call : Call) (answer : Answer)
+      → LeftAlong u q trace q'
+      → Leaves (LeftBy u call) q' (by_call call answer) q''
+      → LeftAlong u q (trace ++ (call, answer) ∷ []) q''
+  left_more q q' q'' [] call answer same next =
+      (q'', subst (λ k. Leaves (LeftBy u call) k (by_call call answer) q'') same next, refl)
+  left_more q q' q'' (x ∷ trace) call answer (between, first, rest) next =
+      (between, first, left_more between q' q'' trace call answer rest next)
 
--- A queue that is left call by call, with nothing added to its history, is left by refused calls alone.
-module _ {Q : Type 0} (u : Q → Q → Type 0) (start : Q) where
-  left_on : (q q' : Q) (call : Call) → Left u start q → LeftBy u call q q' → Left u start q'
-  left_on q q' (Release i) left same = subst (Left u start) (sym same) left
-  left_on q q' (Done i) left same = subst (Left u start) (sym same) left
-  left_on q q' (Request e) left one = more left one
-  left_on q q' (Withdraw n) left one = more left one
-  left_on q q' Slack left same = subst (Left u start) (sym same) left
-  left_on q q' Tick left same = subst (Left u start) (sym same) left
+  -- A queue that is left call by call, with nothing added to its history, is left by refused calls alone.
+  left_on : (start q q' : Q) (call : Call) → Left u start q → LeftBy u call q q' → Left u start q'
+  left_on start q q' (Release i) left same = subst (Left u start) (sym same) left
+  left_on start q q' (Done i) left same = subst (Left u start) (sym same) left
+  left_on start q q' (Request e) left one = more left one
+  left_on start q q' (Withdraw n) left one = more left one
+  left_on start q q' Slack left same = subst (Left u start) (sym same) left
+  left_on start q q' Tick left same = subst (Left u start) (sym same) left
 
-  pub left_along : (q q' : Q) (trace : Trace) → Left u start q → LeftAlong u q trace q' → history trace ≡ [] → Left u start q'
-  left_along q q' [] left same nothing = subst (Left u start) (sym same) left
-  left_along q q' (x ∷ trace) left (next, first, rest) nothing =
+  pub left_along : (start q q' : Q) (trace : Trace) → Left u start q → LeftAlong u q trace q' → history trace ≡ [] → Left u start q'
+  left_along start q q' [] left same nothing = subst (Left u start) (sym same) left
+  left_along start q q' (x ∷ trace) left (next, first, rest) nothing =
       let (here, later) = both_empty (by_call x.0 x.1) (history trace) nothing in
-      left_along next q' trace (left_on q next x.0 left (first here)) rest later
+      left_along start next q' trace (left_on start q next x.0 left (first here)) rest later
 
 abbrev pub no_entry : Entry
 no_entry = record { call = Release 0; answer = Accepted }

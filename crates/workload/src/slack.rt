@@ -8,8 +8,8 @@ ghost use Rattle.model.specs.Table.{within_limits};
 ghost use Rattle.workload.specs.Streams.{stream_of};
 ghost use Rattle.workload.specs.Workloads.{work_in};
 
-use crate::streams::Stream;
 use crate::demands::Demand;
+use crate::streams::Stream;
 use crate::workloads::Workload;
 use arrayvec::ArrayVec;
 use model::{Duty, Row};

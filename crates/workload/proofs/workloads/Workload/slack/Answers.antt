@@ -28,7 +28,7 @@ loop-duty-preserved c =
     let i = length c.loop-duty.yielded in
     let (lt, fits, duty, row) = zip_turn (work_in w).table (work_in w).rows c.loop-duty.yielded _ _ c.next.new.self _ (cc) (cc) c.loop-duty.yielded_by _ c.in-Some.is c.next.ensures.steps in
     let streams = streams_more w i lt _ _ (duty no_duty) (row no_row) _ _ _ c.loop-duty.invariant.0 c.stream.ensures c.push.ensures.items in
-    let slack = slack_more w i lt _ _ (duty no_duty) (row no_row) _ _ _ _ 
+    let slack = slack_more w i lt _ _ (duty no_duty) (row no_row) _ _ _ _
     (record {
       are = c.deref.ensures.0 ∙ streams;
       ends = c.window.ensures.value;
