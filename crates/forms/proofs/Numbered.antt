@@ -35,11 +35,24 @@ joined_on : (xs : List ℕ) (v : ℕ) (o : Option (List ℕ))
 joined_on xs v None = refl
 joined_on xs v (Some vs) = ap Some (append_assoc xs (v ∷ []) vs)
 
-pub number_read : (n k : ℕ) (values : List ℕ) (left : List (List ℕ)) (all : Option (List ℕ)) (i : List ℕ) (later : List (List ℕ))
-    → k < n → k < length values → left ≡ i ∷ later → is_number i ≡ true → Ahead n k values left all
-    → Ahead n (k + 1) (set values k (value i)) later all
-number_read n k values left all i later h room first is_digit ahead =
+-- Before the number at k of n is read: the values so far, the item that is this number, and the items behind it.
+pub record NextNumber (n k : ℕ) (all : Option (List ℕ)) : Type 0 where
+  pub values : List ℕ
+  pub item : List ℕ
+  pub later : List (List ℕ)
+  pub before : k < n
+  pub room : k < length values
+  pub is_digits : is_number item ≡ true
+  pub ahead : Ahead n k values (item ∷ later) all
+
+pub number_read : (n k : ℕ) (all : Option (List ℕ)) (next : NextNumber n k all)
+    → Ahead n (k + 1) (set next.values k (value next.item)) next.later all
+number_read n k all next =
+    let values = next.values in
+    let item = next.item in
+    let rest = numbers (n - (k + 1)) next.later in
+    let before = next.before in
     let more : n - k ≡ suc (n - (k + 1)) = omega arith in
-    ap (λ (xs : List ℕ). option_map (λ (vs : List ℕ). xs ++ vs) (numbers (n - (k + 1)) later)) (take_more_set values k (value i) room)
-    ∙ joined_on (take k values) (value i) (numbers (n - (k + 1)) later)
-    ∙ rw (more, first, is_digit) at ahead
+    ap (λ (xs : List ℕ). option_map (λ (vs : List ℕ). xs ++ vs) rest) (take_more_set values k (value item) next.room)
+    ∙ joined_on (take k values) (value item) rest
+    ∙ rw (more, next.is_digits) at next.ahead

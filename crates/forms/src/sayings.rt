@@ -15,6 +15,9 @@ use crate::numbers::{is_number, numbers, numbers_fit, value};
 use crate::shapes::{is_form, is_remark};
 use model::Duty;
 
+// The most ticks that a run may have.
+const MOST_TICKS: u32 = 10000;
+
 /// The queue in which errands wait.
 #[derive(Clone, Copy, PartialEq, Eq, Debug)]
 pub enum QueueName {
@@ -113,9 +116,6 @@ fn said_in(part: Part) -> Option<Said>
     let word = items.next()?;
     worded(word.bytes, items)
 }
-
-// The most ticks that a run may have.
-const MOST_TICKS: u32 = 10000;
 
 // A run has no more ticks than it may have.
 fn end_fits(what: Said) -> bool

@@ -16,7 +16,7 @@ use Rattle.forms.specs.Sayings.{all_calls, at_said, call, duty_said, end_said, q
 use Rattle.forms.specs.declared.faults.Position.{Position}
 use Rattle.forms.specs.declared.sayings.QueueName.TheVariants.{First, Worth}
 use Rattle.forms.specs.declared.sayings.Said.{Said}
-use Rattle.forms.specs.declared.sayings.Said.TheVariants.{Sheet, Duty as AddDuty, Queue, At as AtClock, End, Remark}
+use Rattle.forms.specs.declared.sayings.Said.TheVariants.{Sheet, Queue, At as AtClock, Remark}
 use Rattle.forms.proofs.Apart.{taken_apart}
 use Rattle.sheet.specs.Ats.{AtLine, behind_first, leading_calls}
 use Rattle.sheet.specs.Laws.{CallsStand, CallsBeforeEnd, SheetsHaveCalls}

@@ -8,13 +8,13 @@ use Rattle.forms.specs.Lines.{Line}
 use Rattle.forms.specs.Sayings.{says}
 use Rattle.forms.specs.declared.faults.Layer.TheVariants.{Sheet as SheetLayer}
 use Rattle.forms.specs.declared.sayings.Said.{Said}
-use Rattle.forms.specs.declared.sayings.Said.TheVariants.{Sheet, Duty as AddDuty, Queue, At, End, Remark}
+use Rattle.forms.specs.declared.sayings.Said.TheVariants.{Sheet, Queue, At, End, Remark}
 use Rattle.sheet.specs.Ats.{AtLine}
 use Rattle.sheet.specs.Orders.{SoFar, at_line, in_order, nothing_read, with_said}
 use Rattle.sheet.specs.Rules.{Faultless, FirstLate, Has, Saying, out_of_order, set_by_lines}
 use Rattle.sheet.specs.Sheets.{late, over}
 use Rattle.sheet.specs.declared.drafts.Stage.{Stage}
-use Rattle.sheet.specs.declared.drafts.Stage.TheVariants.{Start, Duties, Ats, Over}
+use Rattle.sheet.specs.declared.drafts.Stage.TheVariants.{Over}
 
 -- Lines without a fault: the first, and those behind it.
 pub first_faultless : (s : SoFar) (l : Line) (ls : List Line) → Faultless s (l ∷ ls) → (f : Fault) → Has s l f → ⊥

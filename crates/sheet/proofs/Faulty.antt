@@ -15,7 +15,7 @@ use Rattle.forms.specs.declared.faults.Layer.{Layer}
 use Rattle.forms.specs.declared.faults.Layer.TheVariants.{Letters, Forms, Sheet as SheetLayer}
 use Rattle.forms.specs.declared.faults.Position.{Position}
 use Rattle.forms.specs.declared.sayings.Said.{Said}
-use Rattle.forms.specs.declared.sayings.Said.TheVariants.{Sheet, Duty as AddDuty, Queue, At, End, Remark}
+use Rattle.forms.specs.declared.sayings.Said.TheVariants.{Duty as AddDuty, At, End, Remark}
 use Rattle.sheet.specs.Ats.{AtLine}
 use Rattle.sheet.specs.Orders.{SoFar, fault_16, fault_17, fault_of_table, has_room, in_order, line_judged, refused_at, sheet_faults, table_faults, table_says, with_said}
 use Rattle.sheet.specs.Rules.{Before, Counts, Has, bad_letter as BadLetter, not_ended, no_form, wrong_items, large_number, large_end, out_of_order, no_room, refused, rank}

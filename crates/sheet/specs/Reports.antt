@@ -1,5 +1,5 @@
 -- What is reported of each fault of the layers sheet and table.
-use Rattle.std.specs.Prelude.{ℕ, List, [], ◌∷◌, Some, None, Option, slice_index}
+use Rattle.std.specs.Prelude.{ℕ, List, ◌∷◌, Some, None, Option, slice_index}
 use Rattle.model.specs.Refusals.{refusal_code}
 use Rattle.forms.specs.Faults.{Fault, fault, forms_report}
 use Rattle.forms.specs.declared.faults.Layer.TheVariants.{Sheet, Table}

@@ -8,7 +8,7 @@ use Rattle.sheet.specs.Ats.{AtLine, at_of}
 use Rattle.sheet.specs.Orders.{SoFar, lines_judged, nothing_read}
 use Rattle.sheet.specs.declared.sheets.Sheet.{Sheet}
 use Rattle.sheet.specs.declared.drafts.Stage.{Stage}
-use Rattle.sheet.specs.declared.drafts.Stage.TheVariants.{Start, Duties, Ats, Over}
+use Rattle.sheet.specs.declared.drafts.Stage.TheVariants.{Over}
 use Rattle.forms.specs.declared.faults.Layer.TheVariants.{Sheet as SheetLayer}
 use Rattle.forms.specs.declared.faults.Position.{Position}
 use Rattle.forms.specs.declared.sayings.QueueName.{QueueName}

@@ -18,6 +18,9 @@ use arrayvec::ArrayVec;
 use forms::{Position, QueueName, Reader};
 use table::Setting;
 
+// The most bytes that a text may have.
+const LONGEST: usize = 32768;
+
 // The most at-lines that a sheet may have.
 const MOST_ATS: usize = 256;
 
@@ -66,9 +69,6 @@ impl<'a> Sheet<'a> {
         self.ticks
     }
 }
-
-// The most bytes that a text may have.
-const LONGEST: usize = 32768;
 
 // No at-line is late: each comes before the end.
 fn on_time(ats: &[At], ticks: u32) -> Result<(), SheetFault>
