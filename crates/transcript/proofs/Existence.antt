@@ -1,9 +1,8 @@
 -- A fault is printed as it is. The script of a sheet has a run over its table, which is admitted, and so a rendering.
-use Rattle.std.proofs.Common.{◌≡◌, ℕ, true, List, [], Ok, Err, Result, refl, arith}
+use Rattle.std.proofs.Common.{◌≡◌, ℕ, true, List, [], Ok, Err, Result, refl}
 use Rattle.model.proofs.Promise.{every_run_keeps_the_promise}
 use Rattle.model.proofs.Spare.{fresh_keeps}
 use Rattle.model.specs.Machine.{fresh}
-use Rattle.model.specs.Queues.{Sound}
 use Rattle.model.specs.Table.{admitted}
 use Rattle.queue.proofs.Named.{best_names_right, earliest_names_right}
 use Rattle.queue.proofs.QueueAfter.{script_runs_from_empty}
@@ -13,20 +12,18 @@ use Rattle.forms.specs.Faults.{Fault}
 use Rattle.forms.specs.declared.sayings.QueueName.TheVariants.{First, Worth}
 use Rattle.sheet.proofs.Tables.{sheet_admitted}
 use Rattle.sheet.specs.Sheets.{Set, sheet_of}
-use Rattle.transcript.specs.Existence.{EveryScriptRuns, ExactlyOneTranscript, empty_queue}
+use Rattle.transcript.specs.Existence.{EveryScriptRuns, ExactlyOneTranscript}
 use Rattle.transcript.specs.Lines.{fault_line}
 use Rattle.transcript.specs.Renderings.{rendered}
 use Rattle.transcript.specs.Scripts.{script_of}
-use Rattle.transcript.specs.Transcripts.{PrintedOf, Transcript, choice_of}
+use Rattle.transcript.specs.Transcripts.{PrintedOf, Transcript, choice_of, empty_queue}
+use Rattle.transcript.proofs.Balanced.{empty_sound}
 use Rattle.transcript.proofs.Settled.{one_transcript}
 
 pub every_script_runs : EveryScriptRuns
 every_script_runs table First places script = script_runs_from_empty table earliest places script earliest_names_right
 every_script_runs table Worth places script =
     script_runs_from_empty table best_worth places script (best_names_right (λ e. e.worth) (λ e. e.units))
-
-empty_sound : (places : ℕ) → Sound (empty_queue places)
-empty_sound places = record { each_once = refl; few = omega arith; names = refl }
 
 module _ (s : Set) (ok : admitted s.table ≡ true) where
   run : RunOf (choice_of s.queue) [] (fresh s.table (empty_queue 64)) (script_of s.ats s.ticks)
@@ -37,14 +34,8 @@ module _ (s : Set) (ok : admitted s.table ≡ true) where
       record {
         trace = run.trace;
         end = run.end;
-        ran =
-            record {
-              start = empty_queue 64;
-              empty = refl;
-              names_none = refl;
-              roomy = refl;
-              promise = every_run_keeps_the_promise (fresh s.table (empty_queue 64)) run.trace run.end (fresh_keeps s.table ok) (empty_sound 64) run.run;
-            };
+        promise =
+            every_run_keeps_the_promise (fresh s.table (empty_queue 64)) run.trace run.end (fresh_keeps s.table ok) (empty_sound 64) run.run;
         chosen = run.chosen;
         calls = run.made;
         shows = refl;

@@ -1,5 +1,6 @@
 pub mod Balanced
 mod Existence
+pub mod Queues
 pub mod Renderings
 pub mod Scripts
 mod Settled

@@ -1,16 +1,11 @@
 -- That there is a run of every script, and a transcript of every text.
-use Rattle.std.specs.Prelude.{◌≡◌, ℕ, List, [], None}
+use Rattle.std.specs.Prelude.{◌≡◌, ℕ, List, []}
 use Rattle.model.specs.Machine.{fresh}
-use Rattle.model.specs.Queues.{Meaning}
 use Rattle.model.specs.declared.calls.Call.{Call}
 use Rattle.model.specs.declared.duties.Duty.{Duty}
 use Rattle.queue.specs.Scripts.{RunOf}
 use Rattle.forms.specs.declared.sayings.QueueName.{QueueName}
-use Rattle.transcript.specs.Transcripts.{Printed, choice_of}
-
--- A queue with room for so many errands, in which nothing waits.
-abbrev pub empty_queue : ℕ → Meaning
-empty_queue places = record { waiting = []; named = None; places = places }
+use Rattle.transcript.specs.Transcripts.{Printed, choice_of, empty_queue}
 
 -- Every script has a run, whichever of its calls are refused: over every table, from the fresh state over an empty queue with room for
 -- so many errands, there is one in which each tick that an errand has goes by the choice of the queue of this name.
@@ -19,7 +14,7 @@ EveryScriptRuns =
     (table : List Duty) (queue : QueueName) (places : ℕ) (script : List Call)
     → RunOf (choice_of queue) [] (fresh table (empty_queue places)) script
 
--- What is printed of a text: it is, and whatever else is printed of the text is the same.
+-- It is printed of the text, and whatever is printed of the text is the same.
 pub record PrintedOnly (text out : List ℕ) : Type 0 where
   pub printed : Printed text out
   pub only : (other : List ℕ) → Printed text other → other ≡ out

@@ -8,8 +8,12 @@ use std::io::Read;
 // One byte more than a sheet may have: an input with so many bytes is too long, whatever follows them.
 const MOST_READ: u64 = 32769;
 
-/// Reads an input: all its bytes, or the first 32,769 of a longer one, which is then known to be no sheet. Ends with the error of a
-/// read that fails, and with one where memory runs out.
+/// The bytes of an input: all of them, or the first 32,769 of a longer one. Those are too many for a sheet, so the same is printed of
+/// them as of the whole: fault 17.
+///
+/// # Errors
+///
+/// The error of a read that fails, and an error if memory runs out.
 pub fn read_input<R: Read + Drop>(heap: Global, input: R) -> io::Result<Vec<u8>>
     ensures { IfOk result (λ text. IfSome (R.remaining input) (λ bytes. text.items ≡ take 32769 bytes)) }
 {

@@ -1,4 +1,4 @@
-// What a sheet prints: the script of its at-lines, its run, and the text of both.
+// What is printed of a text: of a sheet the lines of its run, and of any other text the line of its fault.
 #![tactic(auto)]
 
 mod faults;

@@ -1,4 +1,4 @@
-// The lines of a run, each put behind what a text holds already. A line has at most 96 bytes.
+// The lines of a run, each added to a text. A line has at most 96 bytes.
 ghost use Rattle.std.specs.Prelude.{◌≡◌, ◌+◌, ◌*◌, ◌≤◌, ◌++◌, length, string_bytes, string_capacity, string_len};
 ghost use Rattle.model.specs.Runs.{anyone, of_tick};
 ghost use Rattle.model.specs.Words.{had_by};
@@ -47,7 +47,7 @@ fn push_who(out: &mut String, who: Who)
     }
 }
 
-// A call with its answer: a refusal or a tick has a line, and what was accepted has none.
+// The line of a call with its answer, if it has one: a tick or a refusal has, and every other answer has none.
 fn push_event(out: &mut String, clock: u64, entry: &Entry)
     requires room { string_len out.old + 96 ≤ string_capacity out.old }
     ensures bytes { string_bytes out.new ≡ string_bytes out.old ++ event_line clock entry.now.call entry.now.answer }
@@ -77,7 +77,7 @@ fn push_event(out: &mut String, clock: u64, entry: &Entry)
     }
 }
 
-// The response time of a row.
+// The line of a row: its response time.
 fn push_duty(out: &mut String, row: u32, response: u32)
     requires room { string_len out.old + 96 ≤ string_capacity out.old }
     ensures bytes { string_bytes out.new ≡ string_bytes out.old ++ duty_line row response }
@@ -91,7 +91,7 @@ fn push_duty(out: &mut String, row: u32, response: u32)
     push(out, ")\n");
 }
 
-// The response time of each row.
+// The lines of all rows.
 pub(crate) fn push_duties(out: &mut String, setting: &Setting)
     requires room { string_len out.old + 96 * length (table_of setting.now) ≤ string_capacity out.old }
     ensures bytes { string_bytes out.new ≡ string_bytes out.old ++ duty_lines (table_of setting.now) (length (table_of setting.now)) }
@@ -100,13 +100,13 @@ pub(crate) fn push_duties(out: &mut String, setting: &Setting)
 {
     let rows = setting.duties().len() as u32;
     for row in 0..rows {
-        // No row of a setting lacks one.
+        // Every row of a setting has one.
         let response = setting.response(row).unwrap();
         push_duty(out, row, response);
     }
 }
 
-// How far a call moves the clock.
+// By how much a call moves the clock.
 fn ticks_of(answer: Answer) -> u64
     ensures { result ≡ of_tick anyone answer }
 {
@@ -116,7 +116,7 @@ fn ticks_of(answer: Answer) -> u64
     }
 }
 
-// What happened from the clock 0 on.
+// The lines of a script that was run from clock 0 on.
 pub(crate) fn push_events(out: &mut String, script: &[Entry])
     requires room { string_len out.old + 96 * length script.now ≤ string_capacity out.old }
     ensures bytes { string_bytes out.new ≡ string_bytes out.old ++ event_lines 0 (trace_of script.now) }

@@ -1,3 +1,4 @@
+// The memory that one transcript takes, and the call that makes the transcript in it.
 ghost use Rattle.std.specs.Prelude.{◌≡◌, ◌+◌, ◌*◌, ◌≤◌, [], string_bytes, string_capacity, vec_capacity};
 ghost use Rattle.transcript.specs.Transcripts.{Printed};
 
@@ -7,15 +8,15 @@ use dispatcher::Entry;
 use sheet::read;
 use std::alloc::{AllocError, Global};
 
-// The most calls of a script: a text has at most 32,768 bytes, of which each call of an at-line takes one or more, and there are at
-// most 10,000 ticks.
+// The most calls of a script. A text has at most 32,768 bytes, and each call of an at-line takes one or more of them; and there are
+// at most 10,000 ticks.
 const MOST_CALLS: usize = 32768 + 10000;
 
-// The most bytes of a transcript: 96 for each row, of which there are at most 16, and for each call, and 192 for the totals.
+// The most bytes of a transcript: 96 for each of at most 16 rows, 96 for each call, and 192 for the totals.
 const MOST_BYTES: usize = 96 * (16 + MOST_CALLS) + 192;
 
-// The memory in which one transcript is made: an empty script with room for the calls of every sheet, and an empty text with room for
-// every transcript. It is taken before a text is known, and from then on nothing can fail.
+/// The memory in which one transcript is made: an empty script with room for 42,768 calls, which no sheet exceeds, and an empty text
+/// with room for 4,107,456 bytes, which no transcript exceeds. It is taken before a text is known, and from then on nothing can fail.
 #[derive(Drop)]
 pub struct Room {
     script: Vec<Entry>,
@@ -25,14 +26,19 @@ pub struct Room {
 }
 
 impl Room {
-    // Takes all the memory. It fails where there is too little, whatever text comes later.
+    /// Takes all the memory, whatever text comes later.
+    ///
+    /// # Errors
+    ///
+    /// `AllocError` if there is too little memory. No later call fails for want of it.
     pub fn new(heap: Global) -> Result<Room, AllocError> {
         let script = Vec::with_capacity(heap, MOST_CALLS)?;
         let out = String::with_capacity(heap, MOST_BYTES)?;
         Ok(Room { script, out })
     }
 
-    // What is printed of a text: the transcript of the sheet that it is, or its fault.
+    /// What is printed of a text, which may be any bytes: the transcript of the sheet that it is, or the one line of the fault that it
+    /// has. Every line ends with byte 10. It answers for every text, takes no more memory, and uses up the room.
     pub fn transcript(self, text: &[u8]) -> String
         ensures { Printed text.now (string_bytes result) }
     {

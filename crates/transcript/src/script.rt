@@ -1,9 +1,9 @@
-// The script of a sheet: at each clock the calls of its at-lines, and then the tick. There is room for each entry, so none can be
-// left out.
+// The script of a sheet: at each clock the calls of its at-lines, and then the tick. There is room for every entry, so none is left
+// out.
 ghost use Rattle.std.specs.Prelude.{◌≡◌, ◌+◌, ◌≤◌, [], ◌++◌, length, map, vec_capacity};
 ghost use Rattle.std.specs.List.{flat_map};
 ghost use Rattle.dispatcher.specs.Scripts.{calls_of};
-ghost use Rattle.sheet.specs.Ats.{at_of, calls_of as calls_at};
+ghost use Rattle.sheet.specs.Ats.{at_of, calls_at};
 ghost use Rattle.transcript.specs.Scripts.{script_of};
 ghost use Rattle.transcript.specs.Timetables.{InOrder, behind_due, due, lines_of};
 
@@ -27,7 +27,7 @@ fn push_calls(script: &mut Vec<Entry>, at: &At)
     }
 }
 
-// Adds the calls of the at-lines of a clock, which stand in front.
+// Adds the calls of the at-lines of a clock, which stand in front, and goes on behind them.
 fn push_due(script: &mut Vec<Entry>, upcoming: &mut Upcoming, clock: u32)
     requires room { length (calls_of script.old.items ++ flat_map calls_at (lines_of (due clock upcoming.old.ats.now))) ≤ vec_capacity script.old }
     ensures calls { calls_of script.new.items ≡ calls_of script.old.items ++ flat_map calls_at (lines_of (due clock upcoming.old.ats.now)) }

@@ -1,4 +1,4 @@
-// Text that is put behind a text with room for it: none of these calls can fail.
+// Calls that add to a text with room for what they add, so that none can fail.
 ghost use Rattle.std.specs.Prelude.{◌≡◌, ◌+◌, ◌≤◌, ◌++◌, decimal, length, string_bytes, string_capacity, string_len};
 
 use itoa::Buffer;

@@ -9,8 +9,8 @@ use crate::text::{push, push_total};
 use dispatcher::Entry;
 use model::{Answer, Call, Who};
 
-// Units of accepted requests, ticks that errands had, and units that withdraws gave back. The sums are wide enough for
-// every script.
+// Units of accepted requests, ticks that errands had, and units that withdraws gave back. No script is so long that a sum outgrows
+// its type.
 #[derive(Clone, Copy)]
 pub(crate) struct Totals {
     accepted: u128,
@@ -18,6 +18,7 @@ pub(crate) struct Totals {
     withdrawn: u128,
 }
 
+// The units that an entry of a script adds to those accepted.
 fn accepted_by(entry: &Entry) -> u32
     ensures { result ≡ accepted_by entry.now }
 {
@@ -27,6 +28,7 @@ fn accepted_by(entry: &Entry) -> u32
     }
 }
 
+// The ticks that it adds to those that errands had.
 fn served_by(entry: &Entry) -> u32
     ensures { result ≡ served_by entry.now }
 {
@@ -36,6 +38,7 @@ fn served_by(entry: &Entry) -> u32
     }
 }
 
+// The units that it adds to those given back.
 fn withdrawn_by(entry: &Entry) -> u32
     ensures { result ≡ withdrawn_by entry.now }
 {
@@ -69,7 +72,7 @@ impl Totals {
     }
 }
 
-// The last two totals, and the end of the line.
+// The last two totals, and the end of their line.
 fn push_last(out: &mut String, withdrawn: u128, waiting: u128)
     requires room { string_len out.old + 84 ≤ string_capacity out.old }
     ensures { string_bytes out.new ≡ string_bytes out.old ++ last_totals withdrawn waiting }
@@ -80,7 +83,7 @@ fn push_last(out: &mut String, withdrawn: u128, waiting: u128)
     push(out, ")\n");
 }
 
-// The totals, and what waits in the end: what was accepted, and neither served nor withdrawn.
+// The line of totals. The last of them is what waits in the end: what was accepted, and neither served nor withdrawn.
 pub(crate) fn push_totals(out: &mut String, totals: Totals)
     requires room { string_len out.old + 192 ≤ string_capacity out.old }
     ensures { string_bytes out.new ≡ string_bytes out.old

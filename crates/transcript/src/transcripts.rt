@@ -1,4 +1,4 @@
-// What a run prints.
+// The transcript of a sheet: the lines of its rows, of its run and of its totals.
 ghost use Rattle.std.specs.Prelude.{◌≡◌, ◌+◌, ◌*◌, ◌≤◌, [], ◌++◌, length, string_bytes, string_capacity, string_len, vec_capacity};
 ghost use Rattle.dispatcher.specs.Scripts.{trace_of};
 ghost use Rattle.sheet.specs.Sheets.{set_by};
@@ -12,7 +12,7 @@ use crate::totals::{Totals, push_totals};
 use dispatcher::Entry;
 use sheet::Sheet;
 
-// What happened in a run, and its totals.
+// The lines of a run, and its totals.
 fn push_run(out: &mut String, script: &[Entry])
     requires room { string_len out.old + 96 * length script.now + 192 ≤ string_capacity out.old }
     ensures { string_bytes out.new ≡ string_bytes out.old ++ run_lines (trace_of script.now) (left_over (trace_of script.now)) }

@@ -1,7 +1,7 @@
 use Rattle.std.proofs.Common.{◌≡◌, ◌++◌, length, vec_capacity}
 use Rattle.std.specs.List.{flat_map}
 use Rattle.dispatcher.specs.Scripts.{calls_of}
-use Rattle.sheet.specs.Ats.{calls_of as calls_at}
+use Rattle.sheet.specs.Ats.{calls_at}
 use Rattle.transcript.specs.Timetables.{due, behind_due, lines_of}
 use Rattle.transcript.proofs.script.push_due.Given as goal
 
