@@ -1,15 +1,15 @@
 // A dispatcher and its calls. Each call answers and leaves what the machine's step says. A refused call leaves the workload as it
-// was. It leaves the queue as it was too, but for a request and a withdraw: these make one call of the queue, and the queue says
-// itself what its refusal leaves.
+// was. A request, a withdraw and a tick that an errand has make one call of the queue that changes it, and the queue says itself what
+// that call leaves. Any other call leaves the queue as it was.
 ghost use Rattle.std.specs.Prelude.{◌≡◌, [], OnErr};
 ghost use Rattle.model.specs.Histories.{GoesOn, by_call, by_put, by_take, by_tick};
 ghost use Rattle.model.specs.Machine.{Requested, RowCalled, Step, Ticks, Withdraws, fresh, slack_of, tick_answer, waits};
 ghost use Rattle.model.specs.declared.calls.Answer.TheVariants.{Refused};
 ghost use Rattle.model.specs.declared.refusals.Refusal.{Refusal};
+ghost use Rattle.model.specs.declared.calls.Call.TheVariants.{Tick};
 ghost use Rattle.model.specs.declared.rows.RowCall.TheVariants.{Release, Done};
 ghost use Rattle.table.specs.Settings.{table_of};
 ghost use Rattle.workload.specs.Workloads.{work_in};
-ghost use Rattle.queue.specs.Untouched.{Leaves};
 ghost use Rattle.dispatcher.specs.Left.{LeftBy};
 
 use model::{Answer, Call, Errand, Refusal, Who};
@@ -66,7 +66,7 @@ impl<Q: Queue> Dispatcher<Q> {
         ensures step { Requested (view Q.meaning self.old) errand result (view Q.meaning self.new) }
         ensures history { GoesOn Q.arises self.old.queue (by_put errand result) self.new.queue }
         ensures work { self.new.work ≡ self.old.work }
-        ensures untouched { Leaves Q.untouched self.old.queue (by_put errand result) self.new.queue }
+        ensures leaves { Q.leaves self.old.queue (by_put errand result) self.new.queue }
     {
         self.queue.put(errand)
     }
@@ -77,7 +77,7 @@ impl<Q: Queue> Dispatcher<Q> {
         ensures step { Withdraws (view Q.meaning self.old) number result (view Q.meaning self.new) }
         ensures history { GoesOn Q.arises self.old.queue (by_take number result) self.new.queue }
         ensures work { self.new.work ≡ self.old.work }
-        ensures untouched { Leaves Q.untouched self.old.queue (by_take number result) self.new.queue }
+        ensures leaves { Q.leaves self.old.queue (by_take number result) self.new.queue }
     {
         self.queue.take(number)
     }
@@ -106,6 +106,7 @@ impl<Q: Queue> Dispatcher<Q> {
         ensures step { Ticks (view Q.meaning self.old) result (view Q.meaning self.new) }
         ensures history { GoesOn Q.arises self.old.queue (by_tick (tick_answer result)) self.new.queue }
         ensures queue { by_tick (tick_answer result) ≡ [] → self.new.queue ≡ self.old.queue }
+        ensures leaves { LeftBy Q.leaves Tick self.old.queue (by_tick (tick_answer result)) self.new.queue }
         ensures refused { OnErr result (self.new ≡ self.old) }
     {
         let errand_waits = self.errand_waits();
@@ -121,7 +122,7 @@ impl<Q: Queue> Dispatcher<Q> {
     pub fn carry_out(&mut self, call: Call) -> Answer
         ensures step { Step (view Q.meaning self.old) call result (view Q.meaning self.new) }
         ensures history { GoesOn Q.arises self.old.queue (by_call call result) self.new.queue }
-        ensures untouched { Leaves (LeftBy Q.untouched call) self.old.queue (by_call call result) self.new.queue }
+        ensures leaves { LeftBy Q.leaves call self.old.queue (by_call call result) self.new.queue }
         ensures work { (why : Refusal) → result ≡ Refused why → self.new.work ≡ self.old.work }
     {
         self.accept(call).unwrap_or_else(Answer::Refused)
@@ -131,7 +132,7 @@ impl<Q: Queue> Dispatcher<Q> {
     fn accept(&mut self, call: Call) -> Result<Answer, Refusal>
         ensures step { Step (view Q.meaning self.old) call (answer_of result) (view Q.meaning self.new) }
         ensures history { GoesOn Q.arises self.old.queue (by_call call (answer_of result)) self.new.queue }
-        ensures untouched { Leaves (LeftBy Q.untouched call) self.old.queue (by_call call (answer_of result)) self.new.queue }
+        ensures leaves { LeftBy Q.leaves call self.old.queue (by_call call (answer_of result)) self.new.queue }
         ensures work { (why : Refusal) → answer_of result ≡ Refused why → self.new.work ≡ self.old.work }
     {
         let answer = match call {

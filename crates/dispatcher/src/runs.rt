@@ -1,10 +1,10 @@
 // Whole runs, with the promise that holds of each.
-ghost use Rattle.std.specs.Prelude.{◌≡◌};
+ghost use Rattle.std.specs.Prelude.{◌≡◌, []};
 ghost use Rattle.model.specs.Histories.{Chosen, GoesOn, History, history};
 ghost use Rattle.model.specs.Machine.{fresh};
 ghost use Rattle.model.specs.Promise.{Promise};
 ghost use Rattle.table.specs.Settings.{table_of};
-ghost use Rattle.queue.specs.Untouched.{Leaves, Left};
+ghost use Rattle.queue.specs.Untouched.{Left};
 ghost use Rattle.dispatcher.specs.Left.{LeftAlong};
 ghost use Rattle.dispatcher.specs.Scripts.{calls_of, trace_of};
 ghost use Rattle.dispatcher.specs.Views.{view};
@@ -20,14 +20,15 @@ use table::Setting;
 /// deadline is met. An errand has each tick before which one waits, exactly where no lawful future can then miss a deadline. The
 /// accounts of every errand balance. Which errand has such a tick goes by the queue's choice over all that happened to it.
 ///
-/// A call that adds nothing to what happened to the queue leaves it as it was, or as the queue says that a refused request or withdraw
-/// leaves it. So a script of such calls alone leaves what as many refusals leave.
+/// A request, a withdraw and a tick that an errand has leave of the queue what it says itself that one such call leaves, by what the
+/// call adds to all that happened to it. Any other call leaves the queue as it was. So a script in which nothing is added leaves what
+/// calls that add nothing leave, one after the other.
 pub fn run<Q: Queue>(setting: Setting, queue: Q, script: &mut [Entry]) -> Dispatcher<Q>
     ensures promise { Promise (fresh (table_of setting) (Q.meaning queue)) (trace_of script.new) (view Q.meaning result) }
     ensures calls { calls_of script.new ≡ calls_of script.old }
     ensures history { GoesOn Q.arises queue (history (trace_of script.new)) result.queue }
-    ensures untouched { Leaves (Left Q.untouched) queue (history (trace_of script.new)) result.queue }
-    ensures left { LeftAlong Q.untouched queue (trace_of script.new) result.queue }
+    ensures leaves { LeftAlong Q.leaves queue (trace_of script.new) result.queue }
+    ensures untouched { history (trace_of script.new) ≡ [] → Left (λ q r. Q.leaves q [] r) queue result.queue }
     ensures chosen { (past : History) → Q.arises past queue → Chosen Q.choice past (trace_of script.new) }
 {
     let mut dispatcher = Dispatcher::start(setting, queue);

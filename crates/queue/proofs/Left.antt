@@ -1,4 +1,4 @@
--- What any number of refused calls and of spends that find nothing leave, from what each of them leaves.
+-- What any number of calls that add nothing to a queue's history leave, from what each of them leaves.
 use Rattle.std.proofs.Common.{◌≡◌, refl, ◌∙◌}
 use Rattle.queue.specs.Untouched.{Left, none, more}
 

@@ -1,12 +1,6 @@
--- What calls that came to nothing leave of a queue: a put or a take that was refused, and a spend that found nothing.
-use Rattle.std.specs.Prelude.{◌≡◌, []}
-use Rattle.model.specs.Histories.{History}
+-- What calls that add nothing to a queue's history leave of it: a put or a take that is refused, and a spend that finds nothing.
 
--- Where nothing was added to its history, the queue is left as u says.
-abbrev pub Leaves : {Q : Type 0} → (Q → Q → Type 0) → Q → History → Q → Type 0
-Leaves u q added q' = added ≡ [] → u q q'
-
--- Left by any number of such calls, one after the other.
+-- Left by any number of such calls, one after the other, where each leaves of the queue what u says.
 pub data Left {Q : Type 0} (u : Q → Q → Type 0) (q : Q) : Q → Type 0 where
   none : Left u q q
   more : {q' q'' : Q} → Left u q q' → u q' q'' → Left u q q''

@@ -76,14 +76,19 @@ impl<'a, R: Rule> Queue for ErrandQueue<'a, R> {
 
     ghost chooses = { λ past q arose. list_chooses R.worth R.units past q.list arose };
 
-    ghost untouched = { λ q r. r ≡ q };
+    // A call that adds nothing to the history leaves the same value. Every call leaves the slots that are free as what it adds says,
+    // and each slot past the capacity as it was.
+    ghost leaves = { λ q added r.
+        (added ≡ [] → r ≡ q)
+        × (free_slots r.list ≡ free_after (held q.list) (free_slots q.list) added)
+        × (r.beyond ≡ q.beyond) };
 
     fn put(&mut self, errand: Errand) -> Result<(), Refusal>
         ensures means { Put (list_meaning self.old.list) errand result (list_meaning self.new.list) }
         ensures history { GoesOn (Arises R.worth R.units) (held self.old.list) (by_put errand result) (held self.new.list) }
-        ensures untouched { by_put errand result ≡ [] → self.new ≡ self.old }
-        ensures rest { free_slots self.new.list ≡ free_after (held self.old.list) (free_slots self.old.list) (by_put errand result) }
-        ensures beyond { self.new.beyond ≡ self.old.beyond }
+        ensures leaves { (by_put errand result ≡ [] → self.new ≡ self.old)
+            × (free_slots self.new.list ≡ free_after (held self.old.list) (free_slots self.old.list) (by_put errand result))
+            × (self.new.beyond ≡ self.old.beyond) }
     {
         let slot = Slot::rated::<R>(errand)?;
         if place_of(self.list.entries(), errand.number).is_some() {
@@ -102,9 +107,9 @@ impl<'a, R: Rule> Queue for ErrandQueue<'a, R> {
     fn spend(&mut self) -> Option<u32>
         ensures means { Spend (list_meaning self.old.list) result (list_meaning self.new.list) }
         ensures history { GoesOn (Arises R.worth R.units) (held self.old.list) (by_spend result) (held self.new.list) }
-        ensures untouched { by_spend result ≡ [] → self.new ≡ self.old }
-        ensures rest { free_slots self.new.list ≡ free_after (held self.old.list) (free_slots self.old.list) (by_spend result) }
-        ensures beyond { self.new.beyond ≡ self.old.beyond }
+        ensures leaves { (by_spend result ≡ [] → self.new ≡ self.old)
+            × (free_slots self.new.list ≡ free_after (held self.old.list) (free_slots self.old.list) (by_spend result))
+            × (self.new.beyond ≡ self.old.beyond) }
     {
         let slot = *self.list.get(0)?;
         let errand = slot.errand();
@@ -119,9 +124,9 @@ impl<'a, R: Rule> Queue for ErrandQueue<'a, R> {
     fn take(&mut self, number: u32) -> Result<u32, Refusal>
         ensures means { Take (list_meaning self.old.list) number result (list_meaning self.new.list) }
         ensures history { GoesOn (Arises R.worth R.units) (held self.old.list) (by_take number result) (held self.new.list) }
-        ensures untouched { by_take number result ≡ [] → self.new ≡ self.old }
-        ensures rest { free_slots self.new.list ≡ free_after (held self.old.list) (free_slots self.old.list) (by_take number result) }
-        ensures beyond { self.new.beyond ≡ self.old.beyond }
+        ensures leaves { (by_take number result ≡ [] → self.new ≡ self.old)
+            × (free_slots self.new.list ≡ free_after (held self.old.list) (free_slots self.old.list) (by_take number result))
+            × (self.new.beyond ≡ self.old.beyond) }
     {
         let place = place_of(self.list.entries(), number).ok_or(Refusal::NotWaiting)?;
         let units = self.list.entries()[place].errand().units;
@@ -130,8 +135,8 @@ impl<'a, R: Rule> Queue for ErrandQueue<'a, R> {
     }
 }
 
-/// After any number of refused calls and of spends that find nothing, one after the other, a queue is the same value, with every slot
-/// that it was handed.
+/// After any number of calls that add nothing to its history, one after the other, a queue is the same value, with every slot that it
+/// was handed.
 pub fn left_as_it_was<R: Rule>()
-    ensures { (q r : ErrandQueue R R.Rule) → Left ⟦<ErrandQueue<'static, R> as Queue>⟧.untouched q r → r ≡ q }
+    ensures { (q r : ErrandQueue R R.Rule) → Left (λ q r. ⟦<ErrandQueue<'static, R> as Queue>⟧.leaves q [] r) q r → r ≡ q }
 {}

@@ -31,7 +31,7 @@ loop-entry-preserved g c =
     let after = view g.Q.Queue.meaning c.carry_out-entry.new.self in
     let arises = g.Q.Queue.arises in
     let choice = g.Q.Queue.choice in
-    let untouched = g.Q.Queue.untouched in
+    let leaves = g.Q.Queue.leaves in
     let trace = trace_of (take i script) in
     let call = (get_or script i no_entry).call in
     let q = c.loop-entry.dispatcher.queue in
@@ -44,7 +44,7 @@ loop-entry-preserved g c =
       subst (λ (t : Trace). GoesOn arises first.queue (history t) q') more
           (subst (λ (h : History). GoesOn arises first.queue h q') (sym (history_more trace call answer))
           (goes_on_more arises first.queue q q' (history trace) (by_call call answer) goes_on c.carry_out-entry.ensures.history)),
-      subst (λ (t : Trace). LeftAlong untouched first.queue t q') more (left_more untouched first.queue q q' trace call answer left c.carry_out-entry.ensures.untouched),
+      subst (λ (t : Trace). LeftAlong leaves first.queue t q') more (left_more leaves first.queue q q' trace call answer left c.carry_out-entry.ensures.leaves),
       λ past arose.
           subst (λ (t : Trace). Chosen choice past t) more
           (chosen_more choice past trace call answer (chosen past arose)
@@ -70,14 +70,14 @@ returns g c =
     λ past arose. subst (g.Q.Queue.arises past) (sym c.start-dispatcher.ensures.queue) arose in
     let went : GoesOn g.Q.Queue.arises q (history (trace_of c.loop-entry.script)) c.loop-entry.dispatcher.queue =
     subst (λ (s : List Entry). GoesOn g.Q.Queue.arises q (history (trace_of s)) c.loop-entry.dispatcher.queue) whole goes_on in
-    let along : LeftAlong g.Q.Queue.untouched c.args.queue (trace_of c.loop-entry.script) c.loop-entry.dispatcher.queue =
-    subst (λ start. LeftAlong g.Q.Queue.untouched start (trace_of c.loop-entry.script) c.loop-entry.dispatcher.queue) c.start-dispatcher.ensures.queue
-    (subst (λ (s : List Entry). LeftAlong g.Q.Queue.untouched q (trace_of s) c.loop-entry.dispatcher.queue) whole left) in
+    let along : LeftAlong g.Q.Queue.leaves c.args.queue (trace_of c.loop-entry.script) c.loop-entry.dispatcher.queue =
+    subst (λ start. LeftAlong g.Q.Queue.leaves start (trace_of c.loop-entry.script) c.loop-entry.dispatcher.queue) c.start-dispatcher.ensures.queue
+    (subst (λ (s : List Entry). LeftAlong g.Q.Queue.leaves q (trace_of s) c.loop-entry.dispatcher.queue) whole left) in
     record {
       promise = every_run_keeps_the_promise start (trace_of c.loop-entry.script) end (fresh_keeps (table_of setting) setting.admits) (g.Q.Queue.sound c.args.queue) fresh-run;
       calls = calls;
       history = λ past arose. went past (started past arose);
-      untouched = left_along g.Q.Queue.untouched c.args.queue c.args.queue c.loop-entry.dispatcher.queue (trace_of c.loop-entry.script) none along;
-      left = along;
+      untouched = left_along g.Q.Queue.leaves c.args.queue c.args.queue c.loop-entry.dispatcher.queue (trace_of c.loop-entry.script) none along;
+      leaves = along;
       chosen = λ past arose. subst (λ (s : List Entry). Chosen g.Q.Queue.choice past (trace_of s)) whole (chosen past (started past arose));
     }

@@ -13,6 +13,6 @@ invariant-loop-entry g l =
     Run (view g.Q.Queue.meaning l.initial.dispatcher) (trace_of (take l.entry-index l.script)) (view g.Q.Queue.meaning l.dispatcher)
     × (calls_of l.script ≡ calls_of l.initial.script)
     × GoesOn g.Q.Queue.arises l.initial.dispatcher.queue (history (trace_of (take l.entry-index l.script))) l.dispatcher.queue
-    × LeftAlong g.Q.Queue.untouched l.initial.dispatcher.queue (trace_of (take l.entry-index l.script)) l.dispatcher.queue
+    × LeftAlong g.Q.Queue.leaves l.initial.dispatcher.queue (trace_of (take l.entry-index l.script)) l.dispatcher.queue
     × ((past : History) → g.Q.Queue.arises past l.initial.dispatcher.queue
     → Chosen g.Q.Queue.choice past (trace_of (take l.entry-index l.script)))

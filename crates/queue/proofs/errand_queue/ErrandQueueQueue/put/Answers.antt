@@ -45,10 +45,13 @@ returns-clause-history g c =
     arises_put g.R.Rule.worth g.R.Rule.units c.args.self.now.list c.insert.new.self c.in_ok-slot.slot c.args.errand c.insert.result
     c.in_ok-slot.ensures.1 c.insert.ensures
 
-pub returns-clause-rest : goal.returns-clause-rest
-returns-clause-rest g c =
-    free_put c.args.self.now.list c.insert.new.self c.in_ok-slot.slot c.args.errand c.insert.result c.insert.ensures
-
-pub returns-clause-untouched : goal.returns-clause-untouched
-returns-clause-untouched g c nothing =
-    same_queue c.args.self.now _ (refused_put c.args.self.now.list c.insert.new.self c.in_ok-slot.slot c.args.errand c.insert.result nothing c.insert.ensures) refl refl
+pub returns-clause-leaves : goal.returns-clause-leaves
+returns-clause-leaves g c =
+    let q = c.args.self.now in
+    let m = c.insert.new.self in
+    let s = c.in_ok-slot.slot in
+    let e = c.args.errand in (
+      λ nothing. same_queue q _ (refused_put q.list m s e c.insert.result nothing c.insert.ensures) refl refl,
+      free_put q.list m s e c.insert.result c.insert.ensures,
+      refl,
+    )

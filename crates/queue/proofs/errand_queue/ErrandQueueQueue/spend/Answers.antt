@@ -1,4 +1,4 @@
-use Rattle.std.proofs.Common.{[], ◌∷◌, rules}
+use Rattle.std.proofs.Common.{[], ◌∷◌, refl}
 use Rattle.model.specs.Histories.{was_spent}
 use Rattle.list.specs.Held.{held}
 use Rattle.queue.proofs.Arises.{arises_spend, still_arose}
@@ -56,7 +56,5 @@ returns-else-errand-le1 g c =
     record {
       means = done.spends;
       history = arises_spend g.R.Rule.worth g.R.Rule.units q.list m e.number q.once done;
-      untouched = λ added. cc;
-      rest = done.free;
-      beyond = search rules;
+      leaves = (λ added. cc, done.free, refl);
     }

@@ -1,4 +1,4 @@
-use Rattle.std.proofs.Common.{◌≡◌, [], ◌∷◌, get_or, Some, None, Err, ap, ◌∙◌, rules}
+use Rattle.std.proofs.Common.{◌≡◌, [], ◌∷◌, get_or, Some, None, Err, refl, ap, ◌∙◌, rules}
 use Rattle.model.specs.Histories.{was_taken}
 use Rattle.model.specs.declared.refusals.Refusal.TheVariants.{NotWaiting}
 use Rattle.list.specs.Held.{held}
@@ -47,7 +47,5 @@ returns g c =
     record {
       means = done.takes;
       history = arises_take g.R.Rule.worth g.R.Rule.units q.list m n c.errand-units.result.units q.once done;
-      untouched = λ added. cc;
-      rest = done.free;
-      beyond = search rules;
+      leaves = (λ added. cc, done.free, refl);
     }
