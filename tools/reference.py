@@ -15,7 +15,7 @@ LARGEST = 4294967295
 MOST_TICKS = 10000
 MOST_ATS = 256
 DEEPEST = 16
-PLACES = 64
+CAPACITY = 64
 LAYERS = {12: "letters", 13: "forms", 14: "forms", 15: "forms", 16: "sheet", 17: "sheet"}
 
 
@@ -236,7 +236,7 @@ class Machine:
             return 8
         if any(e["number"] == number for e in self.waiting):
             return 9
-        if len(self.waiting) == PLACES:
+        if len(self.waiting) == CAPACITY:
             return 10
         self.waiting.append({"number": number, "units": units, "left": units, "worth": worth})
         return None

@@ -1,4 +1,4 @@
--- A text that grows line by line.
+-- A text that is written line by line: what is written, and what is still to be written, is all of it.
 use Rattle.std.proofs.Common.{◌≡◌, ℕ, ◌+◌, ◌<◌, ◌≤◌, List, ◌++◌, length, get_or, drop, Some, Option, unwrap_or, sym, ap, ◌∙◌, add-one, arith}
 use Rattle.std.proofs.lemmas.List.{append_assoc, append-nil, at_drop_all, at_drop_more}
 use Rattle.dispatcher.proofs.Scripted.{no_entry}
@@ -20,12 +20,12 @@ part_more {X} before part after rest whole all added =
     ap (λ (xs : List X). xs ++ rest) added ∙ append_assoc before part rest ∙ all
 
 -- One row more.
-pub duty_more : (table : List Duty) (row w : ℕ) (start before after : List ℕ)
+pub duty_more : {before after : List ℕ} (table : List Duty) (row w : ℕ) (start : List ℕ)
     → response table row ≡ Some w
     → before ≡ start ++ duty_lines table row
     → after ≡ before ++ duty_line row w
     → after ≡ start ++ duty_lines table (row + 1)
-duty_more table row w start before after responds so_far wrote =
+duty_more table row w start responds so_far wrote =
     wrote
     ∙ ap (λ (bs : List ℕ). bs ++ duty_line row w) so_far
     ∙ append_assoc start (duty_lines table row) (duty_line row w)

@@ -14,7 +14,7 @@ use Rattle.transcript.specs.Lines.{fault_line}
 use Rattle.transcript.specs.Renderings.{rendered}
 use Rattle.transcript.specs.Scripts.{script_of}
 
--- A queue with room for so many errands, in which nothing waits.
+-- A queue with room for so many errands, in which nothing waits, so that it names none.
 abbrev pub empty_queue : ℕ → Meaning
 empty_queue places = record { waiting = []; named = None; places = places }
 
@@ -44,6 +44,6 @@ PrintedOf (Err f) out = out ≡ fault_line f
 abbrev pub Printed : List ℕ → List ℕ → Type 0
 Printed text out = PrintedOf (sheet_of text) out
 
--- All that is printed of a text is the same.
+-- Whatever is printed of a text is the same: there is at most one.
 abbrev pub OneTranscript : Type 0
 OneTranscript = (text out out' : List ℕ) → Printed text out → Printed text out' → out ≡ out'

@@ -9,12 +9,10 @@ loop-row-preserved c =
     let table = table_of c.args.setting.now in
     let row = c.loop-row.row in
     let start = string_bytes c.args.out.now in
-    let before = string_bytes c.loop-row.out in
-    let after = string_bytes c.push_duty.new.out in
     let responds =
     subst (λ (r : Result ℕ Refusal). Responds table row r) c.unwrap-response.ensures c.response.ensures in
     record {
-      rows = duty_more table row c.unwrap-response.result start before after responds c.loop-row.invariant.rows c.push_duty.ensures.bytes;
+      rows = duty_more table row c.unwrap-response.result start responds c.loop-row.invariant.rows c.push_duty.ensures.bytes;
       grown = omega (arith, c.push_duty.ensures.grown, c.loop-row.invariant.grown);
       kept = omega (arith, c.push_duty.ensures.kept, c.loop-row.invariant.kept);
     }
