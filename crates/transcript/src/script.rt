@@ -5,7 +5,7 @@ ghost use Rattle.std.specs.List.{flat_map};
 ghost use Rattle.dispatcher.specs.Scripts.{calls_of};
 ghost use Rattle.sheet.specs.Ats.{at_of, calls_at};
 ghost use Rattle.transcript.specs.Scripts.{script_of};
-ghost use Rattle.transcript.specs.Timetables.{InOrder, behind_due, due, lines_of};
+ghost use Rattle.transcript.specs.Timetables.{InOrder, behind_due, due, at_lines_of};
 
 use crate::timetable::{Timed, Upcoming, sort_by_clock};
 use dispatcher::Entry;
@@ -29,8 +29,8 @@ fn push_calls(script: &mut Vec<Entry>, at: &At)
 
 // Adds the calls of the at-lines of a clock, which stand in front, and goes on behind them.
 fn push_due(script: &mut Vec<Entry>, upcoming: &mut Upcoming, clock: u32)
-    requires room { length (calls_of script.old.items ++ flat_map calls_at (lines_of (due clock upcoming.old.ats.now))) ≤ vec_capacity script.old }
-    ensures calls { calls_of script.new.items ≡ calls_of script.old.items ++ flat_map calls_at (lines_of (due clock upcoming.old.ats.now)) }
+    requires room { length (calls_of script.old.items ++ flat_map calls_at (at_lines_of (due clock upcoming.old.ats.now))) ≤ vec_capacity script.old }
+    ensures calls { calls_of script.new.items ≡ calls_of script.old.items ++ flat_map calls_at (at_lines_of (due clock upcoming.old.ats.now)) }
     ensures rest { upcoming.new.ats.now ≡ behind_due clock upcoming.old.ats.now }
     ensures room { vec_capacity script.new ≡ vec_capacity script.old }
 {
@@ -43,8 +43,8 @@ fn push_due(script: &mut Vec<Entry>, upcoming: &mut Upcoming, clock: u32)
 fn push_sorted(script: &mut Vec<Entry>, ats: &[Timed], ticks: u32)
     requires in_order { InOrder ats.now }
     requires empty { script.old.items ≡ [] }
-    requires room { length (script_of (lines_of ats.now) ticks) ≤ vec_capacity script.old }
-    ensures { calls_of script.new.items ≡ script_of (lines_of ats.now) ticks }
+    requires room { length (script_of (at_lines_of ats.now) ticks) ≤ vec_capacity script.old }
+    ensures { calls_of script.new.items ≡ script_of (at_lines_of ats.now) ticks }
 {
     let mut upcoming = Upcoming { ats };
     for clock in 0..ticks {

@@ -5,7 +5,7 @@ use Rattle.dispatcher.specs.declared.entries.Entry.{Entry}
 use Rattle.model.specs.declared.calls.Call.TheVariants.{Tick}
 use Rattle.transcript.proofs.Scripts.{MadeUpTo, calls_push, clock_fits, made_more}
 use Rattle.transcript.proofs.Timetables.{all_ahead}
-use Rattle.transcript.specs.Timetables.{Timed, lines_of}
+use Rattle.transcript.specs.Timetables.{Timed, at_lines_of}
 use Rattle.transcript.proofs.script.push_sorted.Goals as goal
 
 pub loop-clock-init : goal.loop-clock-init
@@ -41,7 +41,7 @@ loop-clock-preserved c =
     let tick = calls_push between after c.from.result Tick c.push_reserved.ensures.items (ap (λ (e : Entry). e.call) c.from.ensures) in
     record {
       made =
-          subst (λ (ts : List Timed). MadeUpTo (lines_of c.args.ats.now) (c.loop-clock.clock + 1) ts (calls_of after))
+          subst (λ (ts : List Timed). MadeUpTo (at_lines_of c.args.ats.now) (c.loop-clock.clock + 1) ts (calls_of after))
           (sym c.push_due.ensures.rest)
           (made_more (calls_of between) (calls_of after) c.loop-clock.invariant.made c.push_due.ensures.calls tick);
       room = c.push_reserved.ensures.capacity ∙ c.push_due.ensures.room ∙ c.loop-clock.invariant.room;
