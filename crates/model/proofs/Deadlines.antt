@@ -20,7 +20,7 @@ use Rattle.model.specs.declared.duties.Duty.{Duty}
 use Rattle.model.specs.declared.rows.Row.{Row}
 use Rattle.model.specs.declared.rows.Row.TheVariants.{Idle, Ready}
 use Rattle.model.specs.declared.rows.RowCall.{RowCall}
-use Rattle.model.specs.declared.rows.RowCall.TheVariants.{Release as RowRelease, Done as RowDone, Run as RowRun}
+use Rattle.model.specs.declared.rows.RowCall.TheVariants.{Release as RowRelease, Done as RowDone, Tick as RowTick}
 use Rattle.model.proofs.Admitted.{admitted_limits}
 use Rattle.model.proofs.Invariant.{kept_gives}
 use Rattle.model.proofs.Kept.{ready_inside, kept_before_due}
@@ -57,10 +57,10 @@ module _ (i c d e : ℕ) where
     -- An accepted release is of another row.
     released_other : (j : ℕ) → call_refusal w j RowRelease ≡ [] → j ≡ i → ⊥
     released_other j accepted same =
-        let (there, willing) = call_accepted w j RowRelease accepted in
+        let (there, allowed) = call_accepted w j RowRelease accepted in
         let keeping = kept_gives 0 w keeps.work_kept in
         let within : i < length w.table = omega (arith, keeping.numbers.same_length) in
-        let early = release_allowed w.clock e (rw (same, at) at willing) in
+        let early = release_allowed w.clock e (rw (same, at) at allowed) in
         let before = kept_before_due w keeps i c d e at in
         let numbers = rw at at (keeping.numbers.each i within) in
         omega (arith, admitted_limits w.table keeps.table_admitted i within, numbers)
@@ -70,12 +70,12 @@ module _ (i c d e : ℕ) where
     other_row j call other = get_or-set_other w.rows j i (row_then w j call) no_row (λ same. other (sym same)) ∙ at
 
     -- Row i itself has the tick.
-    followed_work : (slack : ℕ) → Followed Tick (Ticked slack (ForDuty i)) (after_call w i RowRun).rows
+    followed_work : (slack : ℕ) → Followed Tick (Ticked slack (ForDuty i)) (after_call w i RowTick).rows
     followed_work slack =
         let had : row_had i (ForDuty i) ≡ 1 = cond-true (i == i) 1 0 (eq-eqb i i refl) in
-        let now : row_at (after_call w i RowRun).rows i ≡ row_after (duty_at w.table i) w.clock (Ready c d e) RowRun =
-        get_or-set_same w.rows i (row_then w i RowRun) no_row (ready_inside w.rows i c d e at)
-        ∙ ap (λ row. row_after (duty_at w.table i) w.clock row RowRun) at in
+        let now : row_at (after_call w i RowTick).rows i ≡ row_after (duty_at w.table i) w.clock (Ready c d e) RowTick =
+        get_or-set_same w.rows i (row_then w i RowTick) no_row (ready_inside w.rows i c d e at)
+        ∙ ap (λ row. row_after (duty_at w.table i) w.clock row RowTick) at in
         record {
           not_released = refl;
           job_then =
@@ -94,7 +94,7 @@ module _ (i c d e : ℕ) where
         rw (found, duty_turn)
         (⊎_elim
         (λ (same : k ≡ i). rw same (followed_work slack))
-        (λ (other : k ≡ i → ⊥). left_alone Tick (Ticked slack (ForDuty k)) (after_call w k RowRun).rows refl (other_row k RowRun other))
+        (λ (other : k ≡ i → ⊥). left_alone Tick (Ticked slack (ForDuty k)) (after_call w k RowTick).rows refl (other_row k RowTick other))
         (cases_eq k i)))
         (turn_cases w.rows)
 

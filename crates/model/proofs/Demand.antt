@@ -7,7 +7,7 @@ use Rattle.model.specs.Table.{ceil}
 use Rattle.model.specs.declared.duties.Duty.{Duty}
 use Rattle.model.specs.declared.rows.Row.{Row}
 use Rattle.model.specs.declared.rows.Row.TheVariants.{Idle, Ready}
-use Rattle.model.specs.declared.rows.RowCall.TheVariants.{Run}
+use Rattle.model.specs.declared.rows.RowCall.TheVariants.{Tick}
 use Rattle.model.proofs.Ceil.{ceil_none, ceil_mono, ceil_more}
 
 -- The jobs that can come before a clock ask for at least as much where they may come earlier or the clock is later.
@@ -43,7 +43,7 @@ need_done from duty c d e x = omega (arith, jobs_le duty (x - max e from) (x - e
 -- A tick of work lowers what its row needs by at least one,
 pub need_run :
     (from clock : ℕ) (duty : Duty) (c d e x : ℕ)
-    → 1 ≤ c → need from duty (row_after duty clock (Ready c d e) Run) x + 1 ≤ need from duty (Ready c d e) x
+    → 1 ≤ c → need from duty (row_after duty clock (Ready c d e) Tick) x + 1 ≤ need from duty (Ready c d e) x
 need_run from clock duty c d e x some =
     let jobs = duty.cost * ceil (x - e) duty.separation in
     cond_both (nat_le c 1) (Idle e) (Ready (pred c) d e) (λ row. need from duty row x + 1 ≤ need from duty (Ready c d e) x)
@@ -53,7 +53,7 @@ need_run from clock duty c d e x some =
 -- and by at most one where its next release lies ahead.
 pub need_run_at_most :
     (from clock : ℕ) (duty : Duty) (c d e x : ℕ)
-    → from ≤ e → need from duty (Ready c d e) x ≤ need from duty (row_after duty clock (Ready c d e) Run) x + 1
+    → from ≤ e → need from duty (Ready c d e) x ≤ need from duty (row_after duty clock (Ready c d e) Tick) x + 1
 need_run_at_most from clock duty c d e x ahead =
     let same : max e from ≡ e = omega arith in
     let jobs = duty.cost * ceil (x - e) duty.separation in

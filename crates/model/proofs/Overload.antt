@@ -13,7 +13,7 @@ use Rattle.model.specs.Table.{admitted, duty_at}
 use Rattle.model.specs.declared.duties.Duty.{Duty}
 use Rattle.model.specs.declared.rows.Row.{Row}
 use Rattle.model.specs.declared.rows.Row.TheVariants.{Idle, Ready}
-use Rattle.model.specs.declared.rows.RowCall.TheVariants.{Release, Run}
+use Rattle.model.specs.declared.rows.RowCall.TheVariants.{Release, Tick}
 use Rattle.model.proofs.Admitted.{Limits, admitted_limits}
 use Rattle.model.proofs.Demand.{need_idle_none, need_released, need_run_at_most}
 use Rattle.model.proofs.Extremes.{greatest_above, slackless_row}
@@ -82,15 +82,15 @@ work_needs :
     → RowNumbers clock duty row
     → is_ready row ≡ true
     → clock < window_end clock duty row
-    → need clock duty row x ≤ need (clock + 1) duty (row_after duty clock row Run) x + 1
+    → need clock duty row x ≤ need (clock + 1) duty (row_after duty clock row Tick) x + 1
 work_needs clock duty (Idle e) x limits numbers ready ahead = absurd (both_ways false refl ready)
 work_needs clock duty (Ready c d e) x limits numbers ready ahead =
     need_run_at_most (clock + 1) clock duty c d e x (omega (arith, limits, numbers))
 
 work_window :
     (clock : ℕ) (duty : Duty) (row : Row)
-    → is_ready (row_after duty clock row Run) ≡ true
-    → window_end (clock + 1) duty (row_after duty clock row Run) ≡ window_end clock duty row
+    → is_ready (row_after duty clock row Tick) ≡ true
+    → window_end (clock + 1) duty (row_after duty clock row Tick) ≡ window_end clock duty row
 work_window clock duty (Idle e) ready = absurd (both_ways false refl ready)
 work_window clock duty (Ready c d e) ready =
     ⊎_elim
@@ -124,10 +124,10 @@ module _ (i end : ℕ) where
 
     release_accepted : call_refusal w k Release ≡ []
     release_accepted =
-        let willing : row_refusal w.clock (row_at w.rows k) Release ≡ [] =
+        let allowed : row_refusal w.clock (row_at w.rows k) Release ≡ [] =
         rw at (cond-false (nat_lt w.clock e) (5 ∷ []) [] (le-ltb w.clock e allowed)) in
         cond-true (nat_lt k (length w.rows)) (row_refusal w.clock (row_at w.rows k) Release) (1 ∷ []) (lt-ltb k (length w.rows) released_there)
-        ∙ willing
+        ∙ allowed
 
     release_more :
         (x : ℕ) → w.clock ≤ x → (j : ℕ) → need_at w.clock w.table w.rows x j ≤ need_at w.clock w.table (slice_set w.rows k released_row) x j
@@ -235,7 +235,7 @@ module _ (i end : ℕ) where
     -- Row k has the tick, and no row above it has a job.
     module _ (k : ℕ) (first : IsLeast (ready_at w.rows) 0 (length w.rows) k) (before : w.clock < end) where
       abbrev worked_row : Row
-      worked_row = row_after (duty_at w.table k) w.clock (row_at w.rows k) Run
+      worked_row = row_after (duty_at w.table k) w.clock (row_at w.rows k) Tick
 
       worked_there : k < length w.rows
       worked_there = omega (arith, first.below)
@@ -246,15 +246,15 @@ module _ (i end : ℕ) where
       worked_ahead : w.clock < end_at w.clock w k
       worked_ahead = windows_open w over timely k worked_within
 
-      worked_numbers : Numbers (later (after_call w k Run))
-      worked_numbers = numbers_later (after_call w k Run) (run_numbers w over.table_admitted over.numbers k worked_ahead first)
+      worked_numbers : Numbers (later (after_call w k Tick))
+      worked_numbers = numbers_later (after_call w k Tick) (run_numbers w over.table_admitted over.numbers k worked_ahead first)
 
       -- The demand of row i falls by at most one, so it is still more than the ticks can give.
       worked_short :
-          (x : ℕ) → w.clock + 1 ≤ x → x ≤ end → x < demand_at (w.clock + 1) w.table (after_call w k Run).rows i x + (w.clock + 1)
+          (x : ℕ) → w.clock + 1 ≤ x → x ≤ end → x < demand_at (w.clock + 1) w.table (after_call w k Tick).rows i x + (w.clock + 1)
       worked_short x from to =
           let at_most_one =
-          demand_one_less w.table i over.inside w.clock (w.clock + 1) x w.rows (after_call w k Run).rows
+          demand_one_less w.table i over.inside w.clock (w.clock + 1) x w.rows (after_call w k Tick).rows
           over.numbers.same_length worked_numbers.same_length k
           (λ j h other.
           rw (get_or-set_other w.rows k j worked_row no_row other)
@@ -270,22 +270,22 @@ module _ (i end : ℕ) where
           ⊎_elim
           (λ ready. ready)
           (λ done.
-          let idle : (j : ℕ) → j ≤ i → ready_at (after_call w k Run).rows j ≡ false =
+          let idle : (j : ℕ) → j ≤ i → ready_at (after_call w k Tick).rows j ≡ false =
           at_set (λ j r. j ≤ i → is_ready r ≡ false) w.rows k worked_row worked_there
           (λ _. done) (λ j other h. first.first j (omega arith) (omega arith)) in
           let none =
-          demand_none w.table i over.inside (w.clock + 1) (w.clock + 1) (after_call w k Run).rows worked_numbers.same_length
-          (λ j h. idle_needs_none (w.clock + 1) (duty_at w.table j) (row_at (after_call w k Run).rows j) (idle j h)) in
+          demand_none w.table i over.inside (w.clock + 1) (w.clock + 1) (after_call w k Tick).rows worked_numbers.same_length
+          (λ j h. idle_needs_none (w.clock + 1) (duty_at w.table j) (row_at (after_call w k Tick).rows j) (idle j h)) in
           absurd (omega (arith, worked_short (w.clock + 1) (omega arith) (omega arith))))
           (cases_Bool (is_ready worked_row))
 
-      worked_end : (j : ℕ) → j ≡ i → end_at (w.clock + 1) (after_call w k Run) j ≡ end_at w.clock w j
+      worked_end : (j : ℕ) → j ≡ i → end_at (w.clock + 1) (after_call w k Tick) j ≡ end_at w.clock w j
       worked_end =
           at_set (λ j r. j ≡ i → window_end (w.clock + 1) (duty_at w.table j) r ≡ end_at w.clock w j) w.rows k worked_row worked_there
           (λ same. work_window w.clock (duty_at w.table k) (row_at w.rows k) (worked_on same))
           (λ j other same. window_stays w.clock (duty_at w.table j) (row_at w.rows j) (released j (omega (arith, over.inside))))
 
-      run_overloaded : Overloaded (later (after_call w k Run))
+      run_overloaded : Overloaded (later (after_call w k Tick))
       run_overloaded =
           record {
             table_admitted = over.table_admitted;
@@ -297,7 +297,7 @@ module _ (i end : ℕ) where
                   windows_open w over timely j h,
                   set_end w over.numbers k worked_row worked_there
                       (run_needs w over.table_admitted over.numbers k worked_ahead first) j,
-                  window_later w.clock (duty_at w.table j) (row_at (after_call w k Run).rows j),
+                  window_later w.clock (duty_at w.table j) (row_at (after_call w k Tick).rows j),
                 );
             ends = worked_end i refl ∙ over.ends;
             short = worked_short;

@@ -12,7 +12,7 @@ use Rattle.model.specs.declared.duties.Duty.{Duty}
 use Rattle.model.specs.declared.rows.Row.{Row}
 use Rattle.model.specs.declared.rows.Row.TheVariants.{Idle, Ready}
 use Rattle.model.specs.declared.rows.RowCall.{RowCall}
-use Rattle.model.specs.declared.rows.RowCall.TheVariants.{Release, Done, Run}
+use Rattle.model.specs.declared.rows.RowCall.TheVariants.{Release, Done, Tick}
 use Rattle.model.proofs.Admitted.{Limits, admitted_limits}
 use Rattle.model.proofs.Demand.{need_released, need_done, need_run}
 use Rattle.model.proofs.Invariant.{RowNumbers, Numbers, end_at, Spares, kept_gives, kept_from}
@@ -67,9 +67,9 @@ row_call_needs clock duty (Ready c d e) Done limits numbers ahead accepted =
       needs = λ x later. need_done clock duty c d e x;
       ends = omega (arith, limits, numbers);
     }
-row_call_needs clock duty (Idle e) Run limits numbers ahead accepted =
+row_call_needs clock duty (Idle e) Tick limits numbers ahead accepted =
     record { numbers = numbers; needs = λ x later. omega arith; ends = omega arith }
-row_call_needs clock duty (Ready c d e) Run limits numbers ahead accepted =
+row_call_needs clock duty (Ready c d e) Tick limits numbers ahead accepted =
     record {
       numbers =
           cond_both (nat_le c 1) (Idle e) (Ready (pred c) d e) (RowNumbers clock duty)

@@ -13,7 +13,7 @@ use Rattle.model.specs.Table.{admitted, duty_at}
 use Rattle.model.specs.declared.duties.Duty.{Duty}
 use Rattle.model.specs.declared.rows.Row.{Row}
 use Rattle.model.specs.declared.rows.Row.TheVariants.{Idle, Ready}
-use Rattle.model.specs.declared.rows.RowCall.TheVariants.{Run}
+use Rattle.model.specs.declared.rows.RowCall.TheVariants.{Tick}
 use Rattle.model.proofs.Demand.{need_later, need_run}
 use Rattle.model.proofs.Extremes.{greatest_taken, slack_least}
 use Rattle.model.proofs.Invariant.{RowNumbers, Numbers, Spares, Keeping, end_at, kept_gives, kept_from}
@@ -67,13 +67,13 @@ module _ (w : Work) (numbers : Numbers w) (i r : ℕ) (inside : i < length w.tab
       met_spares (later w) ok (numbers_later w numbers) i inside r x (before_end, omega arith)
 
 -- No state of a row refuses it a tick of work; a ready row then needs at least one less.
-pub run_accepted : (clock : ℕ) (row : Row) → row_refusal clock row Run ≡ []
+pub run_accepted : (clock : ℕ) (row : Row) → row_refusal clock row Tick ≡ []
 run_accepted clock (Idle e) = refl
 run_accepted clock (Ready c d e) = refl
 
 run_needs_less :
     (clock : ℕ) (duty : Duty) (row : Row) (x : ℕ)
-    → is_ready row ≡ true → RowNumbers clock duty row → need clock duty (row_after duty clock row Run) x + 1 ≤ need clock duty row x
+    → is_ready row ≡ true → RowNumbers clock duty row → need clock duty (row_after duty clock row Tick) x + 1 ≤ need clock duty row x
 run_needs_less clock duty (Idle e) x ready numbers = absurd (both_ways false refl ready)
 run_needs_less clock duty (Ready c d e) x ready numbers = need_run clock clock duty c d e x numbers.0
 
@@ -82,52 +82,52 @@ module _
     (w : Work) (ok : admitted w.table ≡ true) (numbers : Numbers w) (k : ℕ)
     (ahead : w.clock < end_at w.clock w k) (first : IsLeast (ready_at w.rows) 0 (length w.rows) k) where
   abbrev row_then : Row
-  row_then = row_after (duty_at w.table k) w.clock (row_at w.rows k) Run
+  row_then = row_after (duty_at w.table k) w.clock (row_at w.rows k) Tick
 
   there : k < length w.rows
   there = omega (arith, first.below)
 
-  pub run_allowed : call_refusal w k Run ≡ []
+  pub run_allowed : call_refusal w k Tick ≡ []
   run_allowed =
       cond-true _ _ _ (lt-ltb k (length w.rows) there) ∙ run_accepted w.clock (row_at w.rows k)
 
   pub run_needs : NeedsNoMore w.clock (duty_at w.table k) (row_at w.rows k) row_then
-  run_needs = call_needs w ok numbers k Run ahead run_allowed
+  run_needs = call_needs w ok numbers k Tick ahead run_allowed
 
-  pub run_numbers : Numbers (after_call w k Run)
-  run_numbers = call_numbers w ok numbers k Run ahead run_allowed
+  pub run_numbers : Numbers (after_call w k Tick)
+  run_numbers = call_numbers w ok numbers k Tick ahead run_allowed
 
   -- No row above it has a job after the tick either.
-  idle_above : (j : ℕ) → j < k → ready_at (after_call w k Run).rows j ≡ false
+  idle_above : (j : ℕ) → j < k → ready_at (after_call w k Tick).rows j ≡ false
   idle_above j above =
       ap is_ready (get_or-set_other w.rows k j row_then no_row (λ e. omega arith)) ∙ first.first j (omega arith) above
 
   -- Row k needs one less,
-  one_less : (x : ℕ) → need_at w.clock w.table (after_call w k Run).rows x k + 1 ≤ need_at w.clock w.table w.rows x k
+  one_less : (x : ℕ) → need_at w.clock w.table (after_call w k Tick).rows x k + 1 ≤ need_at w.clock w.table w.rows x k
   one_less x =
       rw (get_or-set_same w.rows k row_then no_row there)
       (run_needs_less w.clock (duty_at w.table k) (row_at w.rows k) x first.passed
       (numbers.each k (omega (arith, there, numbers.same_length))))
 
   -- so it and each row below it have one more to spare,
-  run_gains : (i r : ℕ) → i < length w.table → k ≤ i → Spares w.clock w i r → Spares w.clock (after_call w k Run) i (r + 1)
+  run_gains : (i r : ℕ) → i < length w.table → k ≤ i → Spares w.clock w i r → Spares w.clock (after_call w k Tick) i (r + 1)
   run_gains i r inside below (x, before, (before_end, met)) =
       let less =
-      demand_less w.table i inside w.clock w.clock x w.rows (after_call w k Run).rows numbers.same_length run_numbers.same_length
+      demand_less w.table i inside w.clock w.clock x w.rows (after_call w k Tick).rows numbers.same_length run_numbers.same_length
       k below (λ j h. set_need w numbers k row_then there run_needs x before j) (one_less x) in
       (x, before, (omega (arith, set_end w numbers k row_then there run_needs i), omega arith))
 
   -- and the tick takes nothing from them.
   pub run_spares :
-      (i r : ℕ) → i < length w.table → k ≤ i → Spares w.clock w i r → Spares (w.clock + 1) (later (after_call w k Run)) i r
+      (i r : ℕ) → i < length w.table → k ≤ i → Spares w.clock w i r → Spares (w.clock + 1) (later (after_call w k Tick)) i r
   run_spares i r inside below spares =
-      later_spares (after_call w k Run) run_numbers i r inside ok
-      (releases_over (after_call w k Run) run_numbers i (r + 1) inside (run_gains i r inside below spares))
+      later_spares (after_call w k Tick) run_numbers i r inside ok
+      (releases_over (after_call w k Tick) run_numbers i (r + 1) inside (run_gains i r inside below spares))
 
-  run_keeping : Keeping 0 w → Keeping 0 (later (after_call w k Run))
+  run_keeping : Keeping 0 w → Keeping 0 (later (after_call w k Tick))
   run_keeping keeping =
-      let after = later (after_call w k Run) in
-      let numbers_then = numbers_later (after_call w k Run) run_numbers in
+      let after = later (after_call w k Tick) in
+      let numbers_then = numbers_later (after_call w k Tick) run_numbers in
       record {
         numbers = numbers_then;
         spares = λ i inside.
@@ -163,7 +163,7 @@ duty_tick_keeps w keeps =
     rw found
     (record {
       table_admitted = ok;
-      work_kept = kept_from 0 (later (after_call w k Run)) (run_keeping w ok keeping.numbers k ahead first keeping);
+      work_kept = kept_from 0 (later (after_call w k Tick)) (run_keeping w ok keeping.numbers k ahead first keeping);
     }))
     (turn_cases w.rows)
 

@@ -20,7 +20,7 @@ use Rattle.model.specs.declared.refusals.Refusal.{Refusal}
 use Rattle.model.specs.declared.rows.Row.{Row}
 use Rattle.model.specs.declared.rows.Row.TheVariants.{Idle, Ready}
 use Rattle.model.specs.declared.rows.RowCall.{RowCall}
-use Rattle.model.specs.declared.rows.RowCall.TheVariants.{Release as RowRelease, Done as RowDone, Run as RowRun}
+use Rattle.model.specs.declared.rows.RowCall.TheVariants.{Release as RowRelease, Done as RowDone, Tick as RowTick}
 
 pub record Work : Type 0 where
   pub table : List Duty
@@ -66,7 +66,7 @@ row_refusal clock row call = []
 abbrev pub row_after : Duty → ℕ → Row → RowCall → Row
 row_after duty clock row RowRelease = released duty clock
 row_after duty clock (Ready c d e) RowDone = Idle e
-row_after duty clock (Ready c d e) RowRun = cond (nat_le c 1) (Idle e) (Ready (pred c) d e)
+row_after duty clock (Ready c d e) RowTick = cond (nat_le c 1) (Idle e) (Ready (pred c) d e)
 row_after duty clock row call = row
 
 -- What refuses a call to row i: 1, there is no such row; else what its state refuses.
@@ -96,7 +96,7 @@ duty_turn w = elim (first_ready w.rows) [ None ↦ Nobody | Some i ↦ ForDuty i
 
 -- What such a tick makes of the work, before the clock is raised: the first ready row has one tick of work.
 abbrev pub duty_tick : Work → Work
-duty_tick w = with_rows w (elim (first_ready w.rows) [ None ↦ w.rows | Some i ↦ (after_call w i RowRun).rows ])
+duty_tick w = with_rows w (elim (first_ready w.rows) [ None ↦ w.rows | Some i ↦ (after_call w i RowTick).rows ])
 
 -- An errand waits.
 abbrev pub waits : Meaning → Bool

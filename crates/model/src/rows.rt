@@ -25,5 +25,5 @@ pub enum RowCall {
     /// The end of its job, whatever is left of it. Refused 6 where the row has none.
     Done,
     /// One tick of work, never refused. A row that has no job stays as it is.
-    Run,
+    Tick,
 }

@@ -11,7 +11,7 @@ use Rattle.model.specs.declared.refusals.Refusal.TheVariants.{AlreadyWaiting, Er
 use Rattle.model.specs.declared.rows.Row.{Row}
 use Rattle.model.specs.declared.rows.Row.TheVariants.{Idle, Ready}
 use Rattle.model.specs.declared.rows.RowCall.{RowCall}
-use Rattle.model.specs.declared.rows.RowCall.TheVariants.{Release as RowRelease, Done as RowDone, Run as RowRun}
+use Rattle.model.specs.declared.rows.RowCall.TheVariants.{Release as RowRelease, Done as RowDone, Tick as RowTick}
 use Rattle.queue.proofs.Lookups.{none_from_test}
 
 -- The numbers are those of some refusal, or there are none and the call is accepted.
@@ -28,8 +28,8 @@ row_refusal_is clock (Idle e) RowRelease = either_refusal (ltb clock e) _ _ (Err
 row_refusal_is clock (Ready c d e) RowRelease = either_refusal (ltb clock e) _ _ (Err TooSoon, refl) (Ok tt, refl)
 row_refusal_is clock (Idle e) RowDone = (Err RowIdle, refl)
 row_refusal_is clock (Ready c d e) RowDone = (Ok tt, refl)
-row_refusal_is clock (Idle e) RowRun = (Ok tt, refl)
-row_refusal_is clock (Ready c d e) RowRun = (Ok tt, refl)
+row_refusal_is clock (Idle e) RowTick = (Ok tt, refl)
+row_refusal_is clock (Ready c d e) RowTick = (Ok tt, refl)
 
 pub call_refusal_is : (w : Work) (i : ℕ) (call : RowCall) → IsRefusal (call_refusal w i call)
 call_refusal_is w i call =

@@ -9,7 +9,7 @@ use Rattle.model.specs.Demand.{no_row}
 use Rattle.model.specs.Kept.{Keeps}
 use Rattle.model.specs.Machine.{RowCalled, Work, after_call, call_refusal, duty_tick, first_ready, later, ready_at}
 use Rattle.model.specs.declared.refusals.Refusal.{Refusal}
-use Rattle.model.specs.declared.rows.RowCall.TheVariants.{Run}
+use Rattle.model.specs.declared.rows.RowCall.TheVariants.{Tick}
 use Rattle.table.specs.Settings.{table_of}
 use Rattle.workload.proofs.RowCalls.{keeps_in, row_answers}
 use Rattle.workload.specs.Workloads.{work_in}
@@ -34,14 +34,14 @@ module _ (w : Workload) where
     ready_few = omega (arith, ready_inside, (admitted_says (table_of w.setting) w.setting.admits).few)
 
     -- A ready row takes a tick,
-    accepted : call_refusal (work_in w) i Run ≡ []
+    accepted : call_refusal (work_in w) i Tick ≡ []
     accepted =
-        row_answers w i Run ready_inside
+        row_answers w i Tick ready_inside
         ∙ run_accepted w.clock (get_or w.rows i no_row)
 
     -- and has had it once it was called to run.
-    pub row_ran : {X : Type 0} (r : Result X Refusal) (then : Work) → RowCalled (work_in w) i Run r then → then ≡ duty_tick (work_in w)
+    pub row_ran : {X : Type 0} (r : Result X Refusal) (then : Work) → RowCalled (work_in w) i Tick r then → then ≡ duty_tick (work_in w)
     row_ran (Ok x) then (free, is) =
-        let tick : duty_tick (work_in w) ≡ after_call (work_in w) i Run = rw (e, duty_tick) in
+        let tick : duty_tick (work_in w) ≡ after_call (work_in w) i Tick = rw (e, duty_tick) in
         is ∙ sym tick
     row_ran (Err why) then (barred, same) = let (n, ns, some) = refusal_code_some why in absurd (cc (accepted, barred, some))

@@ -37,14 +37,14 @@ pub(crate) fn apply(row: &mut Row, call: RowCall, duty: Duty, clock: u32) -> Res
                 due,
                 earliest,
             },
-            RowCall::Run,
+            RowCall::Tick,
         ) if left > 1 => Row::Ready {
             left: left - 1,
             due,
             earliest,
         },
-        (Row::Ready { earliest, .. }, RowCall::Done | RowCall::Run) => Row::Idle { earliest },
-        (idle, RowCall::Run) => idle,
+        (Row::Ready { earliest, .. }, RowCall::Done | RowCall::Tick) => Row::Idle { earliest },
+        (idle, RowCall::Tick) => idle,
     };
     Ok(())
 }

@@ -93,13 +93,13 @@ impl Workload {
             self.clock += 1;
             None
         } else {
-            Some(self.run())
+            Some(self.duty_tick())
         };
         Ok((slack, turn))
     }
 
     // The first ready row has the tick, or nobody.
-    fn run(&mut self) -> Who
+    fn duty_tick(&mut self) -> Who
         requires { self.old.clock < last_clock }
         ensures who { result ≡ duty_turn (work_in self.old) }
         ensures work { work_in self.new ≡ later (duty_tick (work_in self.old)) }
@@ -108,7 +108,7 @@ impl Workload {
         let who = match self.first_ready() {
             Some(row) => {
                 let row = row as u32;
-                let _ = self.call(row, RowCall::Run);
+                let _ = self.call(row, RowCall::Tick);
                 Who::Duty(row)
             }
             None => Who::Nobody,

@@ -2,8 +2,8 @@ use Rattle.std.proofs.Common.{◌≡◌, sym, ap, ◌∙◌, arith}
 use Rattle.model.specs.Machine.{duty_tick, later}
 use Rattle.workload.proofs.DutyTicks.{nobody_ran, ran_keeps, ready_few, row_ran}
 use Rattle.workload.specs.Workloads.{work_in}
-use Rattle.workload.proofs.workloads.Workload.run.Goals.{in-None, in-Some}
-use Rattle.workload.proofs.workloads.Workload.run.Goals as goal
+use Rattle.workload.proofs.workloads.Workload.duty_tick.Goals.{in-None, in-Some}
+use Rattle.workload.proofs.workloads.Workload.duty_tick.Goals as goal
 
 pub overflow_cast-row : goal.overflow_cast-row
 overflow_cast-row c = omega (arith, ready_few c.args.self.now c.in-Some.row (sym c.first_ready.ensures ∙ c.in-Some.is))
