@@ -4,6 +4,7 @@ ghost use Rattle.model.specs.Histories.{Chosen, GoesOn, History, history};
 ghost use Rattle.model.specs.Machine.{fresh};
 ghost use Rattle.model.specs.Promise.{Promise};
 ghost use Rattle.table.specs.Settings.{table_of};
+ghost use Rattle.workload.specs.Workloads.{work_in};
 ghost use Rattle.queue.specs.Untouched.{Left};
 ghost use Rattle.dispatcher.specs.Left.{LeftAlong};
 ghost use Rattle.dispatcher.specs.Scripts.{calls_of, trace_of};
@@ -26,6 +27,7 @@ use table::Setting;
 pub fn run<Q: Queue>(setting: Setting, queue: Q, script: &mut [Entry]) -> Dispatcher<Q>
     ensures promise { Promise (fresh (table_of setting) (Q.meaning queue)) (trace_of script.new) (view Q.meaning result) }
     ensures calls { calls_of script.new ≡ calls_of script.old }
+    ensures table { (work_in result.work).table ≡ table_of setting }
     ensures history { GoesOn Q.arises queue (history (trace_of script.new)) result.queue }
     ensures leaves { LeftAlong Q.leaves queue (trace_of script.new) result.queue }
     ensures untouched { history (trace_of script.new) ≡ [] → Left (λ q r. Q.leaves q [] r) queue result.queue }

@@ -3,6 +3,7 @@ use Rattle.std.proofs.lemmas.List.{take_all}
 use Rattle.model.proofs.Histories.{chosen_more, chosen_none, goes_on_more, history_more, stays_on, step_named}
 use Rattle.model.proofs.Promise.{every_run_keeps_the_promise}
 use Rattle.model.proofs.Spare.{fresh_keeps}
+use Rattle.model.proofs.Steps.{run_table}
 use Rattle.model.specs.Histories.{Chosen, GoesOn, History, by_call, history}
 use Rattle.model.specs.Machine.{State, fresh}
 use Rattle.model.specs.Runs.{Run, Trace, stay}
@@ -76,6 +77,7 @@ returns g c =
     record {
       promise = every_run_keeps_the_promise start (trace_of c.loop-entry.script) end (fresh_keeps (table_of setting) setting.admits) (g.Q.Queue.sound c.args.queue) fresh-run;
       calls = calls;
+      table = run_table start (trace_of c.loop-entry.script) end fresh-run;
       history = λ past arose. went past (started past arose);
       untouched = left_along g.Q.Queue.leaves c.args.queue c.args.queue c.loop-entry.dispatcher.queue (trace_of c.loop-entry.script) none along;
       leaves = along;
