@@ -61,7 +61,7 @@ module _ (i c d e : ℕ) where
         let keeping = kept_gives 0 w keeps.work_kept in
         let within : i < length w.table = omega (arith, keeping.numbers.same_length) in
         let early = release_allowed w.clock e (rw (same, at) at allowed) in
-        let before = kept_before_due w keeps i c d e at in
+        let before = kept_before_due w keeps.work_kept i c d e at in
         let numbers = rw at at (keeping.numbers.each i within) in
         omega (arith, admitted_limits w.table keeps.table_admitted i within, numbers)
 
@@ -142,7 +142,7 @@ module _ (i c d e : ℕ) where
 
 -- A job with c units left whose deadline the clock reaches within a run has its c ticks in it, or is called done,
 -- before its row is released again.
-job_finishes :
+pub job_finishes :
     (s : State) (trace : Trace) (end : State) (i c d e : ℕ)
     → Run s trace end
     → Keeps s.work
@@ -150,7 +150,7 @@ job_finishes :
     → d ≤ s.work.clock + ticks trace
     → (c ≤ row_ticks i (until_release i trace)) ⊎ (1 ≤ dones i (until_release i trace))
 job_finishes s trace end i c d e stay keeps at reached =
-    absurd (omega (arith, kept_before_due s.work keeps i c d e at))
+    absurd (omega (arith, kept_before_due s.work keeps.work_kept i c d e at))
 job_finishes s trace end i c d e (step {s' = s'} {call = call} {answer = answer} {rest = rest} one more) keeps at reached =
     let following = followed i c d e s call answer s' one keeps at in
     rw (following.not_released, until_release)

@@ -11,20 +11,20 @@ use Rattle.model.proofs.Ticks.{duty_tick_keeps, spare_tick_keeps}
 
 -- No lawful future from kept work misses.
 pub kept_safe : (w : Work) → Keeps w → Safe w
-kept_safe w keeps [] lawful missed = both_ways (overdue w.clock w.rows) (kept_not_overdue w keeps) missed
+kept_safe w keeps [] lawful missed = both_ways (overdue w.clock w.rows) (kept_not_overdue w keeps.work_kept) missed
 kept_safe w keeps (release i ∷ moves) (accepted, lawful) missed =
     ⊎_elim
-    (both_ways (overdue w.clock w.rows) (kept_not_overdue w keeps))
+    (both_ways (overdue w.clock w.rows) (kept_not_overdue w keeps.work_kept))
     (kept_safe (after_call w i Release) (call_keeps w i Release keeps accepted) moves lawful)
     (or_cases (overdue w.clock w.rows) (misses (after_call w i Release) moves) missed)
 kept_safe w keeps (done i ∷ moves) (accepted, lawful) missed =
     ⊎_elim
-    (both_ways (overdue w.clock w.rows) (kept_not_overdue w keeps))
+    (both_ways (overdue w.clock w.rows) (kept_not_overdue w keeps.work_kept))
     (kept_safe (after_call w i Done) (call_keeps w i Done keeps accepted) moves lawful)
     (or_cases (overdue w.clock w.rows) (misses (after_call w i Done) moves) missed)
 kept_safe w keeps (tick ∷ moves) lawful missed =
     ⊎_elim
-    (both_ways (overdue w.clock w.rows) (kept_not_overdue w keeps))
+    (both_ways (overdue w.clock w.rows) (kept_not_overdue w keeps.work_kept))
     (kept_safe (later (duty_tick w)) (duty_tick_keeps w keeps) moves lawful)
     (or_cases (overdue w.clock w.rows) (misses (later (duty_tick w)) moves) missed)
 

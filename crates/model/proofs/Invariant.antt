@@ -37,7 +37,7 @@ pub record Numbers (w : Work) : Type 0 where
 abbrev NumbersOf : ℕ → List Duty → List Row → Type 0
 NumbersOf clock table rows = Numbers (record { table = table; clock = clock; rows = rows })
 
-rows_kept_gives : (clock : ℕ) (table : List Duty) (rows : List Row) → rows_kept clock table rows ≡ true → NumbersOf clock table rows
+pub rows_kept_gives : (clock : ℕ) (table : List Duty) (rows : List Row) → rows_kept clock table rows ≡ true → NumbersOf clock table rows
 rows_kept_gives clock [] [] h = record { same_length = refl; each = λ i short. absurd (omega arith) }
 rows_kept_gives clock [] (row ∷ rows) h = absurd (let z : ◌≡◌ {A = ℕ} 0 1 = cc in omega arith)
 rows_kept_gives clock (duty ∷ table) [] h = absurd (let z : ◌≡◌ {A = ℕ} 0 1 = cc in omega arith)
@@ -49,7 +49,7 @@ rows_kept_gives clock (duty ∷ table) (row ∷ rows) h =
       each = elim [ zero ↦ λ short. row_kept_gives clock duty row first | suc i ↦ λ short. rest.each i (omega arith) ];
     }
 
-rows_kept_from : (clock : ℕ) (table : List Duty) (rows : List Row) → NumbersOf clock table rows → rows_kept clock table rows ≡ true
+pub rows_kept_from : (clock : ℕ) (table : List Duty) (rows : List Row) → NumbersOf clock table rows → rows_kept clock table rows ≡ true
 rows_kept_from clock [] [] h = refl
 rows_kept_from clock [] (row ∷ rows) h = absurd (omega (arith, h.same_length))
 rows_kept_from clock (duty ∷ table) [] h = absurd (omega (arith, h.same_length))
@@ -72,19 +72,19 @@ Met from w i r x = (x ≤ end_at from w i) × (demand_at from w.table w.rows i x
 abbrev pub Spares : ℕ → Work → ℕ → ℕ → Type 0
 Spares from w i r = (x : ℕ) × (w.clock < x) × Met from w i r x
 
-has_spare_gives : (w : Work) (i r : ℕ) → has_spare w i r ≡ true → Spares w.clock w i r
+pub has_spare_gives : (w : Work) (i r : ℕ) → has_spare w i r ≡ true → Spares w.clock w i r
 has_spare_gives w i r h =
     let (ticks, found) = search_finds (covers w i r) 1 (window w.clock w.clock w.table w.rows i) h in
     let enough = leb-true (demand_at w.clock w.table w.rows i (w.clock + ticks) + r) ticks found.passed in
     (w.clock + ticks, omega (arith, found.above), (omega (arith, found.above, found.below), omega arith))
 
-has_spare_from : (w : Work) (i r : ℕ) → Spares w.clock w i r → has_spare w i r ≡ true
+pub has_spare_from : (w : Work) (i r : ℕ) → Spares w.clock w i r → has_spare w i r ≡ true
 has_spare_from w i r (x, ahead, (inside, met)) =
     let at : w.clock + (x - w.clock) ≡ x = omega arith in
     search_succeeds (covers w i r) 1 (window w.clock w.clock w.table w.rows i) (x - w.clock) (omega arith) (omega arith)
     (le-leb (demand_at w.clock w.table w.rows i (w.clock + (x - w.clock)) + r) (x - w.clock) (rw at (omega arith)))
 
-all_spare_gives : (w : Work) (r n : ℕ) → all_spare w r n ≡ true → (i : ℕ) → i < n → Spares w.clock w i r
+pub all_spare_gives : (w : Work) (r n : ℕ) → all_spare w r n ≡ true → (i : ℕ) → i < n → Spares w.clock w i r
 all_spare_gives w r zero h i short = absurd (omega arith)
 all_spare_gives w r (suc n) h i short =
     let (others, last) = and_parts (all_spare w r n) (has_spare w n r) h in
@@ -93,7 +93,7 @@ all_spare_gives w r (suc n) h i short =
     (⊎_elim (λ less. all_spare_gives w r n others i less) (λ more. absurd (omega arith)))
     (cases_order i n)
 
-all_spare_from : (w : Work) (r n : ℕ) → ((i : ℕ) → i < n → Spares w.clock w i r) → all_spare w r n ≡ true
+pub all_spare_from : (w : Work) (r n : ℕ) → ((i : ℕ) → i < n → Spares w.clock w i r) → all_spare w r n ≡ true
 all_spare_from w r zero all = refl
 all_spare_from w r (suc n) all =
     and_from (all_spare w r n) (has_spare w n r)

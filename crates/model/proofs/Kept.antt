@@ -5,7 +5,7 @@ use Rattle.std.proofs.lemmas.List.{get_or_past}
 use Rattle.std.proofs.lemmas.Bool.{cases_Bool, cases_lt, both_ways, or_cases, or_left, or_right, eqb-true, eq-eqb}
 use Rattle.model.specs.Demand.{row_at, no_row}
 use Rattle.model.specs.Futures.{overdue}
-use Rattle.model.specs.Kept.{Keeps, SlackNotBelow0}
+use Rattle.model.specs.Kept.{Keeps, kept, SlackNotBelow0}
 use Rattle.model.specs.Machine.{Work}
 use Rattle.model.specs.Slack.{window, window_end}
 use Rattle.model.specs.Table.{duty_at}
@@ -44,15 +44,15 @@ row_overdue clock (Ready c d e ∷ rows) zero c' e' at = or_left (clock == d) (o
 row_overdue clock (Ready c d e ∷ rows) (suc i) c' e' at = or_right (clock == d) (overdue clock rows) (row_overdue clock rows i c' e' at)
 
 -- The clock has not reached the deadline of any job,
-pub kept_before_due : (w : Work) → Keeps w → (i c d e : ℕ) → row_at w.rows i ≡ Ready c d e → w.clock < d
+pub kept_before_due : (w : Work) → kept w ≡ true → (i c d e : ℕ) → row_at w.rows i ≡ Ready c d e → w.clock < d
 kept_before_due w keeps i c d e at =
-    let keeping = kept_gives 0 w keeps.work_kept in
+    let keeping = kept_gives 0 w keeps in
     let there = ready_inside w.rows i c d e at in
     let ahead = spares_open w i 0 (keeping.spares i (omega (arith, keeping.numbers.same_length))) in
     rw at at ahead
 
 -- so none is overdue,
-pub kept_not_overdue : (w : Work) → Keeps w → overdue w.clock w.rows ≡ false
+pub kept_not_overdue : (w : Work) → kept w ≡ true → overdue w.clock w.rows ≡ false
 kept_not_overdue w keeps =
     ⊎_elim
     (λ over. let (i, c, e, at) = overdue_row w.clock w.rows over in
@@ -61,9 +61,9 @@ kept_not_overdue w keeps =
     (cases_Bool (overdue w.clock w.rows))
 
 -- and no row's slack is below 0: some number of ticks within its window covers its demand.
-pub kept_slack : (w : Work) → Keeps w → (i : ℕ) → i < length w.table → SlackNotBelow0 w i
+pub kept_slack : (w : Work) → kept w ≡ true → (i : ℕ) → i < length w.table → SlackNotBelow0 w i
 kept_slack w keeps i inside =
-    let keeping = kept_gives 0 w keeps.work_kept in
+    let keeping = kept_gives 0 w keeps in
     let (x, ahead, (before_end, met)) = releases_over w keeping.numbers i 0 inside (keeping.spares i inside) in
     let at : w.clock + (x - w.clock) ≡ x = omega arith in
     (x - w.clock, omega arith, rw at (omega arith))

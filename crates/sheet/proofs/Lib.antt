@@ -9,4 +9,5 @@ pub mod Lined
 pub mod Punctual
 pub mod Ruled
 pub mod Small
+pub mod Spanned
 pub mod Tables

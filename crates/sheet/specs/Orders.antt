@@ -119,8 +119,3 @@ lines_judged s (l ∷ ls) = elim (line_judged s l) [ Ok t ↦ lines_judged t ls 
 abbrev pub left_with : {X E : Type 0} → (E → Fault) → Result X E → SoFar → Result SoFar Fault
 left_with report (Ok x) s = Ok s
 left_with report (Err e) s = Err (report e)
-
--- A draft as far as it is read, or a fault.
-abbrev pub drafted : {E : Type 0} → (E → Fault) → Result Draft E → Result SoFar Fault
-drafted report (Ok d) = Ok (so_far d)
-drafted report (Err e) = Err (report e)

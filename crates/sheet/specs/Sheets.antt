@@ -61,6 +61,11 @@ sheet_of text =
       | None ↦ of_lines (missing_line text) (lines_judged nothing_read (lines first_position text))
     ]
 
+-- What is set by lines that were found complete, or the fault for which they were not.
+abbrev pub completed : {X E : Type 0} → (E → Fault) → Result X E → SoFar → Result Set Fault
+completed report (Ok x) s = Ok (record { table = s.table; queue = s.queue; ats = s.ats; ticks = s.ticks })
+completed report (Err e) s = Err (report e)
+
 -- What reading gave, as a sheet or a fault.
 abbrev pub outcome : {E : Type 0} → (E → Fault) → Result Sheet E → Result Set Fault
 outcome report (Ok s) = Ok (set_by s)

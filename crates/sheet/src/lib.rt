@@ -5,10 +5,12 @@
 mod ats;
 mod drafts;
 mod faults;
+mod owned;
 mod sheets;
 #[cfg(test)]
 mod tests;
 
-pub use ats::{At, Calls};
+pub use ats::{At, AtSpan, Calls};
 pub use faults::{SheetFault, TableFault};
-pub use sheets::{Sheet, read, read_by_rules, sheets_have_calls};
+pub use owned::{OwnedSheet, read};
+pub use sheets::{Sheet, read_borrowed, read_by_rules, sheets_have_calls};

@@ -3,12 +3,11 @@
 ghost use Rattle.std.specs.Prelude.{◌≡◌, map};
 ghost use Rattle.table.specs.Settings.{table_of};
 ghost use Rattle.forms.specs.Faults.{failing};
-ghost use Rattle.forms.specs.Lines.{lines_left};
 ghost use Rattle.sheet.specs.Ats.{at_of};
 ghost use Rattle.sheet.specs.Laws.{SheetsHaveCalls};
-ghost use Rattle.sheet.specs.Orders.{drafted, lines_judged, nothing_read, so_far};
+ghost use Rattle.sheet.specs.Orders.{so_far};
 ghost use Rattle.sheet.specs.Rules.{ByRules};
-ghost use Rattle.sheet.specs.Sheets.{finished, late, missing_line, outcome, set_by, sheet_of, too_long};
+ghost use Rattle.sheet.specs.Sheets.{completed, finished, late, missing_line, outcome, set_by, sheet_of, too_long};
 ghost use Rattle.sheet.specs.Reports.{sheet_report, table_report};
 
 use crate::ats::At;
@@ -22,9 +21,9 @@ use table::Setting;
 const LONGEST: usize = 32768;
 
 // The most at-lines that a sheet may have.
-const MOST_ATS: usize = 256;
+pub(crate) const MOST_ATS: usize = 256;
 
-/// A sheet that was read: a table of duties, a queue, at-lines in the order of their lines, and a number of ticks.
+/// A sheet that was read, over its text: a table of duties, a queue, at-lines in the order of their lines, and a number of ticks.
 #[derive(Drop)]
 pub struct Sheet<'a> {
     pub(crate) setting: Setting,
@@ -90,15 +89,15 @@ fn missing_line(text: &[u8]) -> Position
     }
 }
 
-// The sheet that a draft has become once all lines of its text were read; the end line may be missing.
-fn finished<'a>(draft: Draft<'a>, text: &[u8]) -> Result<Sheet<'a>, SheetFault>
-    ensures { outcome sheet_report result ≡ finished (missing_line text.now) (so_far draft.entry) }
+// A draft that all lines of its text have entered is a sheet; but the end line may be missing, or an at-line late. The draft is lent,
+// since it is large to hand on.
+fn finished(draft: &Draft, text: &[u8]) -> Result<(), SheetFault>
+    ensures { completed sheet_report result (so_far draft.now) ≡ finished (missing_line text.now) (so_far draft.now) }
 {
     let Stage::Over = draft.stage else {
         return Err(SheetFault::OutOfOrder(missing_line(text)));
     };
-    on_time(draft.sheet.ats(), draft.sheet.ticks())?;
-    Ok(draft.sheet)
+    on_time(draft.sheet.ats(), draft.sheet.ticks())
 }
 
 // The text is not too long.
@@ -112,24 +111,18 @@ fn short(text: &[u8]) -> Result<(), SheetFault>
     }
 }
 
-// The draft that every line has entered, or the fault of the first that does not.
-fn entered<'a>(lines: Reader<'a>) -> Result<Draft<'a>, TableFault>
-    ensures { drafted table_report result ≡ lines_judged nothing_read (lines_left lines.entry) }
-{
-    let mut draft = Draft::new();
-    for line in lines {
-        draft.enter(line)?;
-    }
-    Ok(draft)
-}
-
-/// The sheet that a text is, or the one fault that counts. The text may hold any bytes. The sheet's at-lines are parts of it.
-pub fn read<'a>(text: &'a [u8]) -> Result<Sheet<'a>, TableFault>
+/// The sheet that a text is, or the one fault that counts. The text may hold any bytes. The sheet's at-lines are parts of it, and borrow
+/// it; `read` gives a sheet apart from its text.
+pub fn read_borrowed<'a>(text: &'a [u8]) -> Result<Sheet<'a>, TableFault>
     ensures { outcome table_report result ≡ sheet_of text.now }
 {
     short(text)?;
-    let draft = entered(Reader::new(text))?;
-    Ok(finished(draft, text)?)
+    let mut draft = Draft::new();
+    for line in Reader::new(text) {
+        draft.enter(line)?;
+    }
+    finished(&draft, text)?;
+    Ok(draft.sheet)
 }
 
 /// The law that a text is read as the rules say: as a sheet, or with the one fault that counts.

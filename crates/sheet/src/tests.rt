@@ -1,6 +1,6 @@
-// A sheet that is read, and a fault of each layer.
-use crate::read;
-use forms::{Items, Layer, Position, Report};
+// A sheet that is read, over its text and apart from it, and a fault of each layer.
+use crate::{OwnedSheet, read, read_borrowed};
+use forms::{Items, Layer, Position, QueueName, Report};
 use model::Call;
 use std::test::Fail;
 
@@ -14,7 +14,7 @@ fn fault_of(text: &[u8]) -> Option<Report> {
 
 #[test]
 fn a_sheet_is_read(rt: HostRuntime) -> Result<(), Fail> {
-    let sheet = read(HARVEST)?;
+    let sheet = read_borrowed(HARVEST)?;
     assert_eq!(rt; sheet.setting().duties().len(), 2);
     assert_eq!(rt; sheet.ticks(), 5);
     let ats = sheet.ats();
@@ -27,6 +27,35 @@ fn a_sheet_is_read(rt: HostRuntime) -> Result<(), Fail> {
     let release = Items::new(ats[0].part).nth(2);
     assert!(rt; release.is_some_and(|form| form.bytes == b"(release 0)".as_slice()));
     assert!(rt; release.is_some_and(|form| form.position == Position { line: 6, byte: 80 }));
+    Ok(())
+}
+
+// The sheet of a text that is gone when the sheet is there.
+fn sheet_without_text(rt: &HostRuntime) -> Result<OwnedSheet, Fail> {
+    let mut text = Vec::new(rt.alloc());
+    text.extend_from_slice(HARVEST)?;
+    Ok(read(&text)?)
+}
+
+#[test]
+fn a_sheet_outlives_its_text(rt: HostRuntime) -> Result<(), Fail> {
+    let sheet = sheet_without_text(&rt)?;
+    assert_eq!(rt; sheet.setting().duties().len(), 2);
+    assert!(rt; matches!(sheet.queue(), QueueName::Worth));
+    assert_eq!(rt; sheet.ticks(), 5);
+    let ats = sheet.ats();
+    assert!(rt; ats.len() == 2);
+    assert_eq!(rt; ats[1].clock, 4);
+    assert!(rt; ats[1].position == Position { line: 7, byte: 110 });
+    assert_eq!(rt; ats[1].length, 18);
+    let mut calls = ats[0].in_text(HARVEST).calls();
+    assert!(rt; matches!(calls.next(), Some(Call::Release(0))));
+    assert!(rt; matches!(calls.next(), Some(Call::Request(_))));
+    assert!(rt; calls.next().is_none());
+    let cut = ats[1].in_text(&HARVEST[..120]);
+    assert!(rt; cut.part.bytes == b"(at 4 (rel".as_slice());
+    assert!(rt; ats[1].in_text(b"").part.bytes.is_empty());
+    assert_eq!(rt; sheet.into_setting().duties().len(), 2);
     Ok(())
 }
 

@@ -1,6 +1,6 @@
 -- An insertion that is left to the analysis: what refuses it, what it leaves, and that its duties keep their limits.
 use Rattle.std.proofs.Common.{◌≡◌, ℕ, zero, suc, ◌<◌, ◌≤◌, true, not, List, [], ◌∷◌, ◌++◌, length, take, drop, refl, ap, ◌∙◌, arith}
-use Rattle.std.specs.List.{insert, remove}
+use Rattle.std.specs.List.{insert}
 use Rattle.std.proofs.lemmas.Bool.{and_from, and_parts, cond-false, le-ltb, lt-leb}
 use Rattle.model.specs.Table.{add_refusal, after_add, all_within, first_unschedulable, unschedulable_refusal, within_limits}
 use Rattle.model.specs.declared.duties.Duty.{Duty}
@@ -34,14 +34,3 @@ pub within_inserted : (table : List Duty) (place : ℕ) (d : Duty)
 within_inserted table place d h good =
     within_append (take place table) (d ∷ drop place table) (within_take place table h)
     (and_from _ _ good (within_drop place table h))
-
--- A duty that was inserted and taken out again leaves the table as it was.
-remove_inserted : (table : List Duty) (place : ℕ) (d : Duty) → place ≤ length table → remove (insert table place d) place ≡ table
-remove_inserted table zero d le = refl
-remove_inserted [] (suc place) d le = absurd (omega arith)
-remove_inserted (duty ∷ table) (suc place) d le = ap (λ ds. duty ∷ ds) (remove_inserted table place d (omega arith))
-
-pub taken_out : (table grown left : List Duty) (place : ℕ) (d : Duty) → place ≤ length table
-    → grown ≡ insert table place d → left ≡ remove grown place → left ≡ table
-taken_out table grown left place d le put out =
-    out ∙ ap (λ (ds : List Duty). remove ds place) put ∙ remove_inserted table place d le

@@ -1,6 +1,8 @@
-ghost use Rattle.std.specs.Prelude.{◌≡◌, true, []};
+ghost use Rattle.std.specs.Prelude.{◌≡◌, ◌<◌, ◌≤◌, true, [], length};
+ghost use Rattle.std.specs.List.{insert};
 ghost use Rattle.model.specs.Refusals.{refusal};
 ghost use Rattle.model.specs.Table.{add_refusal, admitted, after_add, within_limits};
+ghost use Rattle.table.specs.declared.settings.TheConstants.{MOST_ROWS};
 
 use crate::analysis::Analysis;
 use arrayvec::ArrayVec;
@@ -55,15 +57,29 @@ impl Setting {
         if self.duties.is_full() {
             return Err(Refusal::TableFull);
         }
-        self.duties.insert(place, duty);
-        let grown = Analysis {
-            duties: &self.duties,
-        };
+        let duties = self.with_duty(place, duty);
+        let grown = Analysis { duties: &duties };
         if let Some(row) = grown.first_unschedulable() {
-            self.duties.remove(place);
             return Err(Refusal::Unschedulable(row));
         }
+        self.duties = duties;
         Ok(())
+    }
+
+    // The duties with one more at its place; those from there on move down one. They are copied into new slots: `ArrayVec::insert` would
+    // have a library for C ask for `memmove`.
+    fn with_duty(&self, place: usize, duty: Duty) -> ArrayVec<Duty, MOST_ROWS>
+        requires within { place ≤ length (table_of self.now) }
+        requires room { length (table_of self.now) < MOST_ROWS }
+        ensures { result.items ≡ insert (table_of self.now) place duty }
+    {
+        let (above, below) = self.duties().split_at(place);
+        let mut duties = ArrayVec::new();
+        // There is room for each.
+        duties.try_extend_from_slice(above).unwrap();
+        duties.push(duty);
+        duties.try_extend_from_slice(below).unwrap();
+        duties
     }
 
     /// The response time of a row in ticks, from 1 to its deadline: the least number of ticks that suffices for a job of the row and for

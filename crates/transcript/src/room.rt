@@ -5,7 +5,7 @@ ghost use Rattle.transcript.specs.Transcripts.{Printed};
 use crate::faults::push_fault;
 use crate::transcripts::push_transcript;
 use dispatcher::Entry;
-use sheet::read;
+use sheet::read_borrowed;
 use std::alloc::{AllocError, Global};
 
 // The most calls of a script. A text has at most 32,768 bytes, and each call of an at-line takes one or more of them; and there are
@@ -46,7 +46,7 @@ impl Room {
             mut script,
             mut out,
         } = self;
-        match read(text) {
+        match read_borrowed(text) {
             Ok(sheet) => push_transcript(&mut script, &mut out, sheet),
             Err(fault) => push_fault(&mut out, &fault.report()),
         }

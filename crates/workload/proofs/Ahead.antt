@@ -28,14 +28,14 @@ module _ (w : Work) (keeps : Keeps w) where
   release_lies : (i : ℕ) (row : Row) → i < length w.table → row_at w.rows i ≡ row → w.clock ≤ next_release (w.clock + 1) row
   release_lies i (Idle e) inside at = omega arith
   release_lies i (Ready c d e) inside at =
-      let due = kept_before_due w keeps i c d e at in
+      let due = kept_before_due w keeps.work_kept i c d e at in
       let numbers : RowNumbers w.clock (duty_at w.table i) (Ready c d e) =
       subst (λ (row : Row). RowNumbers w.clock (duty_at w.table i) row) at ((kept_gives 0 w keeps.work_kept).numbers.each i inside) in
       omega (arith, due, numbers.2, (admitted_limits w.table keeps.table_admitted i inside).deadline_fits)
 
   window_lies : (i : ℕ) (row : Row) → i < length w.table → row_at w.rows i ≡ row → w.clock ≤ window_end (w.clock + 1) (duty_at w.table i) row
   window_lies i (Idle e) inside at = omega arith
-  window_lies i (Ready c d e) inside at = omega (arith, kept_before_due w keeps i c d e at)
+  window_lies i (Ready c d e) inside at = omega (arith, kept_before_due w keeps.work_kept i c d e at)
 
   pub row_ahead : (i : ℕ) → i < length w.table → RowAhead w.clock (duty_at w.table i) (row_at w.rows i)
   row_ahead i inside =

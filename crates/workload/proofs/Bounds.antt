@@ -60,7 +60,7 @@ all_ask_small (s ∷ ss) w h le =
     omega (arith, asks_small s w (bounds_of s both.0) le, all_ask_small ss w both.1 le)
 
 -- Within more ticks a stream asks for no less.
-asks_monotone : (s : Stream) (v w : ℕ) → v ≤ w → asks s v ≤ asks s w
+pub asks_monotone : (s : Stream) (v w : ℕ) → v ≤ w → asks s v ≤ asks s w
 asks_monotone s v w le =
     omega (arith, mul-le-mul_left s.cost (ceil_mono (v - s.first) (w - s.first) s.separation (omega arith)))
 
@@ -107,7 +107,7 @@ all_ask_append : (ss ts : List Stream) (w : ℕ) → all_ask (ss ++ ts) w ≡ al
 all_ask_append [] ts w = omega arith
 all_ask_append (s ∷ ss) ts w = omega (arith, all_ask_append ss ts w)
 
-all_ask_take : (ss : List Stream) (k w : ℕ) → k < length ss
+pub all_ask_take : (ss : List Stream) (k w : ℕ) → k < length ss
     → all_ask (take (k + 1) ss) w ≡ all_ask (take k ss) w + asks (get_or ss k no_stream) w
 all_ask_take ss k w lt =
     ap (λ (ts : List Stream). all_ask ts w) (take_more ss k no_stream lt)
@@ -115,7 +115,7 @@ all_ask_take ss k w lt =
     ∙ omega arith
 
 -- What asks for no more at a later time asks for the same until then.
-still_until : (f : ℕ → ℕ) → ((v w : ℕ) → v ≤ w → f v ≤ f w) → (v x y : ℕ) → v ≤ x → x ≤ y → f y ≡ f v → f x ≡ f v
+pub still_until : (f : ℕ → ℕ) → ((v w : ℕ) → v ≤ w → f v ≤ f w) → (v x y : ℕ) → v ≤ x → x ≤ y → f y ≡ f v → f x ≡ f v
 still_until f monotone v x y low high same = omega (arith, monotone v x low, monotone x y high)
 
 -- One stream more: all of them stay quiet until the sooner of its next job and of how far the others stay so.

@@ -25,7 +25,7 @@ module _ (w : Workload) where
   nobody_ran e = sym (rw (e, duty_tick))
 
   module _ (i : ℕ) (e : first_ready (work_in w).rows ≡ Some i) where
-    ready_inside : i < length (table_of w.setting)
+    pub ready_inside : i < length (table_of w.setting)
     ready_inside =
         let same = (kept_gives 0 (work_in w) w.keeps).numbers.same_length in
         omega (arith, same, (least_found (ready_at (work_in w).rows) 0 (length (work_in w).rows) i e).below)

@@ -63,7 +63,7 @@ module _ (w : Workload) (i : ℕ) (call : RowCall) (inside : i < length (table_o
   pub accepted_work : call_refusal work i call ≡ [] → after ≡ after_call work i call
   accepted_work e = ap (with_rows work) (written ∙ ap (set work.rows i) (rw (refused_by [] e, row_called)))
 
-  refused_work : (n : ℕ) (ns : List ℕ) → call_refusal work i call ≡ n ∷ ns → after ≡ work
+  pub refused_work : (n : ℕ) (ns : List ℕ) → call_refusal work i call ≡ n ∷ ns → after ≡ work
   refused_work n ns e =
       let same : row_called (duty_at table i) w.clock (row_at work.rows i) call ≡ row_at work.rows i = rw (refused_by (n ∷ ns) e, row_called) in
       ap (with_rows work) (written ∙ ap (set work.rows i) same ∙ set-get_or work.rows i no_row)

@@ -28,7 +28,7 @@ idle_alike f g same (suc n) =
     let next = same (suc n) in
     cc
 
-idle_at_most : (f : ℕ → ℕ) → Monotone f → (n : ℕ) → idle_ticks f n ≤ n
+pub idle_at_most : (f : ℕ → ℕ) → Monotone f → (n : ℕ) → idle_ticks f n ≤ n
 idle_at_most f monotone zero = omega arith
 idle_at_most f monotone (suc n) =
     let before = idle_at_most f monotone n in
@@ -68,7 +68,7 @@ module _ (w : Workload) where
     abbrev window_at : ℕ
     window_at = window_end (work.clock + 1) (duty_at work.table i) (row_at work.rows i) - work.clock
 
-    idle_is_slack : idle_ticks (all_ask (first_streams (i + 1))) window_at ≡ slacks i
+    pub idle_is_slack : idle_ticks (all_ask (first_streams (i + 1))) window_at ≡ slacks i
     idle_is_slack =
         let one : i + 1 ≡ suc i = omega arith in
         rw one
