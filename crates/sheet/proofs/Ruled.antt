@@ -9,8 +9,8 @@ use Rattle.forms.specs.declared.faults.Layer.TheVariants.{Sheet as SheetLayer}
 use Rattle.forms.specs.declared.faults.Position.{Position}
 use Rattle.forms.specs.declared.sayings.Said.TheVariants.{End}
 use Rattle.sheet.specs.Orders.{SoFar, line_judged, lines_judged, nothing_read, with_said}
-use Rattle.sheet.specs.Rules.{ByRules, Counts, FaultOf, Faultless, Saying, SheetOf, too_long as TooLong, of_line, no_end, too_late, set_by_lines, set_of}
-use Rattle.sheet.specs.Sheets.{Set, finished, late, missing_line, of_lines, over, sheet_of}
+use Rattle.sheet.specs.Rules.{ByRules, Counts, FaultOf, Faultless, Saying, SheetOf, too_long as TooLong, of_line, no_end, too_late, set_by_lines}
+use Rattle.sheet.specs.Sheets.{Set, finished, late, missing_line, of_lines, over, set_of, sheet_of}
 use Rattle.sheet.proofs.Ended.{end_said, first_faultless, first_late, late_by_lines, late_found, late_line, late_none, later_faultless, none_late, none_within, one_more, said_end}
 use Rattle.sheet.proofs.Faulty.{counts_line, line_counts, line_sets, line_without, without_line}
 

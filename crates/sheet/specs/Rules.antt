@@ -14,7 +14,7 @@ use Rattle.forms.specs.declared.faults.Layer.TheVariants.{Letters, Forms, Sheet 
 use Rattle.forms.specs.declared.sayings.Said.{Said}
 use Rattle.forms.specs.declared.sayings.Said.TheVariants.{Duty as AddDuty, At, End}
 use Rattle.sheet.specs.Orders.{SoFar, in_order, nothing_read, with_said}
-use Rattle.sheet.specs.Sheets.{Set, missing_line, sheet_of}
+use Rattle.sheet.specs.Sheets.{Set, missing_line, set_of, sheet_of}
 use Rattle.sheet.specs.Reports.{table_fault}
 
 -- The layers, in the order in which they count.
@@ -88,10 +88,6 @@ pub data FaultOf (text : List ℕ) : Fault → Type 0 where
   too_late : (ticks : ℕ) (l : Line) → length text ≤ 32768 → Faultless nothing_read (lines first_position text)
       → Saying (lines first_position text) (End ticks) → FirstLate (lines first_position text) ticks l
       → FaultOf text (fault 16 SheetLayer l.position)
-
--- What lines have set, as a sheet.
-abbrev pub set_of : SoFar → Set
-set_of s = record { table = s.table; queue = s.queue; ats = s.ats; ticks = s.ticks }
 
 -- The sheet that a text is: none of those faults is there, and its lines set this.
 pub record SheetOf (text : List ℕ) (set : Set) : Type 0 where

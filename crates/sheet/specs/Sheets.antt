@@ -23,6 +23,10 @@ pub record Set : Type 0 where
 abbrev pub set_by : Sheet → Set
 set_by s = record { table = table_of s.setting; queue = s.queue; ats = map at_of s.ats.items; ticks = s.ticks }
 
+-- What lines have set, as a sheet.
+abbrev pub set_of : SoFar → Set
+set_of s = record { table = s.table; queue = s.queue; ats = s.ats; ticks = s.ticks }
+
 -- The end line was reached.
 abbrev pub over : Stage → Bool
 over Over = true
@@ -37,8 +41,7 @@ late ticks (a ∷ later) =
 -- A sheet whose lines have no fault: its end line must be there, and then no at-line may be late.
 abbrev pub finished : Position → SoFar → Result Set Fault
 finished missing s =
-    judged (unless (over s.stage) (fault 16 SheetLayer missing) ∷ late s.ticks s.ats ∷ [])
-    (record { table = s.table; queue = s.queue; ats = s.ats; ticks = s.ticks })
+    judged (unless (over s.stage) (fault 16 SheetLayer missing) ∷ late s.ticks s.ats ∷ []) (set_of s)
 
 -- One past the last line, at the text's length.
 abbrev pub missing_line : List ℕ → Position
@@ -63,7 +66,7 @@ sheet_of text =
 
 -- What is set by lines that were found complete, or the fault for which they were not.
 abbrev pub completed : {X E : Type 0} → (E → Fault) → Result X E → SoFar → Result Set Fault
-completed report (Ok x) s = Ok (record { table = s.table; queue = s.queue; ats = s.ats; ticks = s.ticks })
+completed report (Ok x) s = Ok (set_of s)
 completed report (Err e) s = Err (report e)
 
 -- What reading gave, as a sheet or a fault.
